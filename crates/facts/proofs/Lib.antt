@@ -1,0 +1,7 @@
+pub mod Bits
+pub mod Finite
+pub mod Numbers
+pub mod Powers
+pub mod Sum
+pub mod Tab
+pub mod Unique

@@ -1,0 +1,4 @@
+pub mod Bits
+pub mod Finite
+pub mod Sum
+pub mod Tab

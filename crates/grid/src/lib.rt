@@ -1,0 +1,81 @@
+// The grid of blocks: how many there are, where each one's word stands, and which are its neighbours.
+mod table;
+
+pub use table::morton_index_by_table;
+pub use table::spread;
+ghost use mathlib.Core.Path.{_≡_};
+ghost use Prim.Native.Nat.{ℕ, _≤_, _<_, min};
+ghost use Rattle.grid.specs.Grid.{blockWidth, blocks, log2, Power, isPower, address, beside};
+
+// The texels across a block.
+pub fn block_width(is2bpp: bool) -> usize
+    ensures { λ r. ⌜ r ≡ blockWidth is2bpp ⌝ }
+{
+    if is2bpp { 8 } else { 4 }
+}
+
+// `side` divided by `size`, rounded up.
+fn div_ceil(side: usize, size: usize) -> usize
+    requires { ⌜ 0 < size ⌝ }
+    ensures { λ r. ⌜ r ≡ blocks size side ⌝ }
+{
+    let whole = side / size;
+    if side % size == 0 { whole } else { whole + 1 }
+}
+
+// The blocks across a picture.
+pub fn num_blocks_x(width: usize, is2bpp: bool) -> usize
+    ensures { λ r. ⌜ r ≡ blocks (blockWidth is2bpp) width ⌝ }
+{
+    if is2bpp {
+        div_ceil(width, 8)
+    } else {
+        div_ceil(width, 4)
+    }
+}
+
+// The blocks down a picture.
+pub fn num_blocks_y(height: usize) -> usize
+    ensures { λ r. ⌜ r ≡ blocks 4 height ⌝ }
+{
+    div_ceil(height, 4)
+}
+
+// Whether n is a power of two.
+pub fn is_power_of_two(n: usize) -> bool
+    ensures { λ r. ⌜ r ≡ isPower n ⌝ }
+{
+    if n == 0 { false } else { n & (n - 1) == 0 }
+}
+
+// The address of block (x, y), a bit of each at a time; min_dim is the smaller side of the grid.
+pub fn morton_index(x: usize, y: usize, min_dim: usize) -> usize
+    requires { ⌜ Power «min_dim» × («min_dim» ≤ 65536) × (x < 65536) × (y < 65536) × (min x y < «min_dim») ⌝ }
+    ensures { λ r. ⌜ r ≡ address (log2 «min_dim») x y ⌝ }
+{
+    let mut offset: usize = 0;
+    let mut shift: usize = 0;
+    let mut mask: usize = 1;
+    while mask < min_dim {
+        offset |= ((y & mask) | ((x & mask) << 1)) << shift;
+        mask <<= 1;
+        shift += 1;
+    }
+    offset | (((x | y) >> shift) << (shift * 2))
+}
+
+// The block before block c of a side, round the torus: the side divides 2^64, so the wrap does no harm.
+pub fn previous_block(c: usize, side: usize) -> usize
+    requires { ⌜ Power side ⌝ }
+    ensures { λ r. ⌜ r ≡ beside side c 0 ⌝ }
+{
+    std::num::wrapping_sub_usize(c, 1) % side
+}
+
+// The block after block c of a side, round the torus.
+pub fn next_block(c: usize, side: usize) -> usize
+    requires { ⌜ Power side ⌝ }
+    ensures { λ r. ⌜ r ≡ beside side c 2 ⌝ }
+{
+    std::num::wrapping_add_usize(c, 1) % side
+}
