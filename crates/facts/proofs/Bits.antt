@@ -6,6 +6,7 @@ use Prim.Native.Nat.{ℕ, zero, suc, _+_, _-_, _*_, _/_, _%_, _^_, _<_}
 use native.Mathlib.Nat.{le-of-suc-le-suc, not-suc-le-zero, eq-or-lt-of-le, pow-succ', add-mul-div-right}
 use native.Mathlib.Numerals.{add-one}
 use native.Mathlib.Omega.{arith}
+use lib.Bits.{bitOr, or-shifted-r}
 use lib.Pow.{pow-pos}
 use Rattle.facts.specs.Bits.{flags}
 use Rattle.facts.proofs.Numbers.{split}
@@ -54,3 +55,20 @@ flags-bit f (suc n) i l =
 pub flags-more : (f : ℕ → Bool) (n : ℕ) → flags f (n + 1) ≡ flags f n + cond (f n) (2 ^ n) 0
 unfolding flags
 flags-more f n = ap (flags f) (add-one n)
+
+-- a loop's invariant: the flags of the numbers below n are set in g, and no other bit
+pub record Flagged (f : ℕ → Bool) (n g : ℕ) : Type 0 where
+  pub is : g ≡ flags f n
+
+pub flagged-none : (f : ℕ → Bool) → Flagged f 0 0
+unfolding flags
+flagged-none f = record { is = refl }
+
+-- the next bit is put in where f holds
+pub flagged-more : {f : ℕ → Bool} {n g b : ℕ} → Flagged f n g → b ≡ cond (f n) (2 ^ n) 0 → Flagged f (n + 1) (bitOr g b)
+flagged-more {f} {n} h e =
+    record {
+      is =
+          rw (h .is, e, cond-times (f n) (2 ^ n), or-shifted-r (cond (f n) 1 0) n (flags f n) (flags-lt f n))
+          (omega (arith, flags-more f n, cond-times (f n) (2 ^ n)));
+    }

@@ -2,7 +2,7 @@
 -- `two` is true at 2bpp and false at 4bpp; gx and gy are the blocks across and down.
 use mathlib.Core.Path.{_≡_}
 use mathlib.Core.Bool.{Bool, true, false, cond}
-use Prim.Native.Nat.{ℕ, zero, suc, _+_, _-_, _*_, _/_, _%_, _^_, _<_, min}
+use Prim.Native.Nat.{ℕ, zero, suc, _+_, _-_, _*_, _/_, _%_, _^_, _≤_, _<_, min}
 use lib.Dec.{ltb, leb, eqb}
 
 -- Half the texels across a block, by which everything that differs with the depth is said.
@@ -62,6 +62,15 @@ blockColumn gx gy z = column (leb gy gx) (log2 (min gx gy)) z
 
 abbrev pub blockRow : ℕ → ℕ → ℕ → ℕ
 blockRow gx gy z = row (leb gy gx) (log2 (min gx gy)) z
+
+-- What the two functions that compute an address ask: m is the smaller side, a power of two, (x, y) lies above it in one of the
+-- two at most, and no number is so large that the address would not fit.
+pub record Placed (m x y : ℕ) : Type 0 where
+  pub power : Power m
+  pub small : m ≤ 65536
+  pub small-x : x < 65536
+  pub small-y : y < 65536
+  pub one-above : min x y < m
 
 -- Addresses are a bijection onto 0 .. n - 1: `blockAddress` goes there, `blockColumn` and `blockRow` come back.
 pub record Bijective (gx gy : ℕ) : Type 0 where

@@ -4,8 +4,8 @@ mod table;
 pub use table::morton_index_by_table;
 pub use table::spread;
 ghost use mathlib.Core.Path.{_≡_};
-ghost use Prim.Native.Nat.{ℕ, _≤_, _<_, min};
-ghost use Rattle.grid.specs.Grid.{blockWidth, blocks, log2, Power, isPower, address, beside};
+ghost use Prim.Native.Nat.{_<_};
+ghost use Rattle.grid.specs.Grid.{blockWidth, blocks, log2, Power, isPower, Placed, address, beside};
 
 // The texels across a block.
 pub fn block_width(is2bpp: bool) -> usize
@@ -50,7 +50,7 @@ pub fn is_power_of_two(n: usize) -> bool
 
 // The address of block (x, y), a bit of each at a time; min_dim is the smaller side of the grid.
 pub fn morton_index(x: usize, y: usize, min_dim: usize) -> usize
-    requires { ⌜ Power «min_dim» × («min_dim» ≤ 65536) × (x < 65536) × (y < 65536) × (min x y < «min_dim») ⌝ }
+    requires { ⌜ Placed «min_dim» x y ⌝ }
     ensures { λ r. ⌜ r ≡ address (log2 «min_dim») x y ⌝ }
 {
     let mut offset: usize = 0;

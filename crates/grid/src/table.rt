@@ -1,11 +1,10 @@
 // The address through a table of spread bytes.
 ghost use mathlib.Core.Path.{_≡_};
-ghost use Prim.Native.Nat.{ℕ, _≤_, _<_, min};
-ghost use Rattle.grid.specs.Grid.{log2, Power, address, spreadBits};
+ghost use Rattle.grid.specs.Grid.{log2, Placed, address, spreadBits};
 
 // The address of block (x, y), as morton_index gives it. What x and y have above the square is a multiple of its side.
 pub fn morton_index_by_table(x: usize, y: usize, min_dim: usize) -> usize
-    requires { ⌜ Power «min_dim» × («min_dim» ≤ 65536) × (x < 65536) × (y < 65536) × (min x y < «min_dim») ⌝ }
+    requires { ⌜ Placed «min_dim» x y ⌝ }
     ensures { λ r. ⌜ r ≡ address (log2 «min_dim») x y ⌝ }
 {
     let low_x = x & (min_dim - 1);

@@ -1,15 +1,12 @@
+-- `grid::block_width` meets its contract, by the depth. Assumes nothing.
 use Rattle.grid.proofs.block_width.Statement.{statement}
 use Rattle.grid.proofs.block_width.Tie as tie
-use Rattle.grid.proofs.block_width.Reads as reads
-use Rattle.grid.proofs.block_width.Lts as lts
 
--- src/lib.rt:11:1
 returns : tie.Need-returns
-returns c = ?
+returns c = rw (c .if1 .taken)
 
--- src/lib.rt:11:1
 returns-2 : tie.Need-returns-2
-returns-2 c = ?
+returns-2 c = rw (c .if1 .left)
 
 pub block-width-spec : {M : Type 1} → statement M
 block-width-spec = tie.close (tie.spec returns returns-2)

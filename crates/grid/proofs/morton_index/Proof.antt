@@ -1,49 +1,56 @@
+-- `grid::morton_index` meets its contract: `Turn` has what its loop keeps. The measure is what the mask lacks of the side.
+-- Assumes nothing.
+use mathlib.Core.Path.{_≡_}
+use Prim.Native.Nat.{_-_, _*_, _%_, _^_, _≤_}
+use native.Mathlib.Omega.{arith}
+use lib.Pow.{pow-pos}
+use Rattle.facts.proofs.Powers.{pow-le-cancel}
+use Rattle.grid.specs.Grid.{log2}
+use Rattle.grid.proofs.Turn.{Turn, first, next, last}
 use Rattle.grid.proofs.morton_index.Statement.{statement}
 use Rattle.grid.proofs.morton_index.Tie as tie
-use Rattle.grid.proofs.morton_index.Reads as reads
-use Rattle.grid.proofs.morton_index.Lts as lts
 
+-- no more than 16 bits are interleaved
 abbrev Inv-loop : tie.InvT-loop
-Inv-loop x y min-dim offset₀ shift₀ mask₀ offset shift mask = ?
+Inv-loop x y min-dim offset₀ shift₀ mask₀ offset shift mask = Turn (log2 min-dim) x y offset shift mask × (log2 min-dim ≤ 16)
 
 abbrev μ-loop : tie.MeasureT-loop
-μ-loop x y min-dim offset₀ shift₀ mask₀ offset shift mask = ?
+μ-loop x y min-dim offset₀ shift₀ mask₀ offset shift mask = min-dim - mask
 
--- src/lib.rt:59:5
 loop-holds : tie.Need-loop-holds Inv-loop μ-loop
-loop-holds c = ?
+loop-holds c =
+    let p = c .pre in
+    (first _ _ _, pow-le-cancel {b = 16} (omega (arith, p .power, p .small)))
 
--- src/lib.rt:60:19
 shl-offset : tie.Need-shl-offset Inv-loop μ-loop
-shl-offset c = ?
+shl-offset c = omega arith
 
--- src/lib.rt:62:9
 add-shift : tie.Need-add-shift Inv-loop μ-loop
-add-shift c = ?
+add-shift c = omega arith
 
--- src/lib.rt:59:5
 loop-less : tie.Need-loop-less Inv-loop μ-loop
-loop-less c = ?
+loop-less c =
+    let mask = c .before .loop .mask in
+    let fits : mask * 2 % 2 ^ 64 ≡ mask * 2 = omega (arith, c .before .before .pre .small) in
+    omega (arith, pow-pos (c .before .loop .shift))
 
--- src/lib.rt:59:5
 loop-again : tie.Need-loop-again Inv-loop μ-loop
-loop-again c = ?
+loop-again c =
+    let l = c .before .loop in
+    let p = c .before .before .pre in
+    (next _ _ _ _ _ _ (l .inv .1) (l .inv .0) (omega (arith, p .power)), l .inv .1)
 
--- src/lib.rt:64:16
 shr-result : tie.Need-shr-result Inv-loop μ-loop
-shr-result c = ?
+shr-result c = omega arith
 
--- src/lib.rt:64:38
 mul-result : tie.Need-mul-result Inv-loop μ-loop
-mul-result c = ?
+mul-result c = omega arith
 
--- src/lib.rt:64:15
 shl-result : tie.Need-shl-result Inv-loop μ-loop
-shl-result c = ?
+shl-result c = omega arith
 
--- src/lib.rt:52:1
 returns : tie.Need-returns Inv-loop μ-loop
-returns c = ?
+returns c = last _ _ _ _ _ _ (c .before .before .pre) (c .before .loop .inv .0) (omega arith)
 
 pub morton-index-spec : {M : Type 1} → statement M
 morton-index-spec =

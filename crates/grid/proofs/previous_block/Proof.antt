@@ -1,21 +1,25 @@
+-- `grid::previous_block` meets its contract: `Torus` has why the machine's wrap does no harm. Assumes nothing.
+use Prim.Native.Nat.{_≤_}
+use native.Mathlib.Omega.{arith}
+use lib.Pow.{pow-pos}
 use borrow.Author.Needs.{needs}
+use Rattle.facts.proofs.Powers.{pow-le-cancel}
+use Rattle.grid.specs.Grid.{log2}
+use Rattle.grid.proofs.Torus.{wraps-back}
 use Rattle.grid.proofs.previous_block.Statement.{statement}
 use Rattle.grid.proofs.previous_block.Tie as tie
-use Rattle.grid.proofs.previous_block.Reads as reads
-use Rattle.grid.proofs.previous_block.Lts as lts
-use Rattle.std.proofs.num.wrapping_sub_usize.Reads as wrapping-sub-usize-reads
 
--- src/lib.rt:72:5
 wrapping-sub-usize-requires : tie.Need-wrapping-sub-usize-requires
 wrapping-sub-usize-requires c κs = search needs
 
--- src/lib.rt:72:5
 rem-result : tie.Need-rem-result
-rem-result c = ?
+rem-result c = omega (arith, pow-pos (log2 (c .before .args .side)))
 
--- src/lib.rt:68:1
 returns : tie.Need-returns
-returns c = ?
+returns c =
+    let side = c .before .args .side in
+    let few : log2 side ≤ 64 = pow-le-cancel {b = 64} (omega arith) in
+    wraps-back (log2 side) side (c .before .pre) few _ _ (c .wrapping-sub-usize .ensures)
 
 pub previous-block-spec : {M : Type 1} → statement M
 previous-block-spec = tie.close (tie.spec wrapping-sub-usize-requires rem-result returns)

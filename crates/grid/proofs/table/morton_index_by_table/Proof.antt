@@ -1,57 +1,64 @@
+-- `grid::table::morton_index_by_table` meets its contract: `Spreading` has that this form is the address, which bounds every part.
+-- Assumes nothing.
+use Prim.Native.Nat.{_-_}
+use native.Mathlib.Omega.{arith}
+use lib.Bits.{and-le-l}
+use lib.Pow.{pow-pos}
 use borrow.Author.Needs.{needs}
+use Rattle.grid.specs.Grid.{log2}
+use Rattle.grid.proofs.Address.{address-small}
+use Rattle.grid.proofs.Spreading.{by-table}
 use Rattle.grid.proofs.table.morton_index_by_table.Statement.{statement}
 use Rattle.grid.proofs.table.morton_index_by_table.Tie as tie
-use Rattle.grid.proofs.table.morton_index_by_table.Reads as reads
-use Rattle.grid.proofs.table.morton_index_by_table.Lts as lts
-use Rattle.grid.proofs.table.spread.Reads as spread-reads
 
--- src/table.rt:11:22
 sub-low-x : tie.Need-sub-low-x
-sub-low-x c = search needs
+sub-low-x c = omega (arith, pow-pos (log2 (c .args .min-dim)))
 
--- src/table.rt:12:22
 sub-low-y : tie.Need-sub-low-y
-sub-low-y c = search needs
+sub-low-y c = omega (arith, pow-pos (log2 (c .args .min-dim)))
 
--- src/table.rt:13:7
 sub-result : tie.Need-sub-result
-sub-result c = ?
+sub-result c = omega (arith, and-le-l (c .args .x) (c .args .min-dim - 1))
 
--- src/table.rt:13:21
 sub-result-2 : tie.Need-sub-result-2
-sub-result-2 c = ?
+sub-result-2 c = omega (arith, and-le-l (c .args .y) (c .args .min-dim - 1))
 
--- src/table.rt:13:6
 add-result : tie.Need-add-result
 add-result c = search needs
 
--- src/table.rt:13:5
 mul-result : tie.Need-mul-result
-mul-result c = ?
+mul-result c =
+    let a = c .args in
+    omega (arith, by-table (a .min-dim) (a .x) (a .y) (c .pre), address-small (a .min-dim) (a .x) (a .y) (c .pre))
 
--- src/table.rt:13:46
 spread-requires : tie.Need-spread-requires
 spread-requires c κs = search needs
 
--- src/table.rt:13:46
 mul-result-2 : tie.Need-mul-result-2
-mul-result-2 c = ?
+mul-result-2 c =
+    let a = c .before .args in
+    let p = c .before .pre in
+    omega (arith, by-table (a .min-dim) (a .x) (a .y) p, address-small (a .min-dim) (a .x) (a .y) p)
 
--- src/table.rt:13:66
 spread-requires-2 : tie.Need-spread-requires-2
 spread-requires-2 c κs = search needs
 
--- src/table.rt:13:46
 add-result-2 : tie.Need-add-result-2
-add-result-2 c = ?
+add-result-2 c =
+    let a = c .before .before .args in
+    let p = c .before .before .pre in
+    omega (arith, by-table (a .min-dim) (a .x) (a .y) p, address-small (a .min-dim) (a .x) (a .y) p)
 
--- src/table.rt:13:5
 add-result-3 : tie.Need-add-result-3
-add-result-3 c = ?
+add-result-3 c =
+    let a = c .before .before .args in
+    let p = c .before .before .pre in
+    omega (arith, by-table (a .min-dim) (a .x) (a .y) p, address-small (a .min-dim) (a .x) (a .y) p)
 
--- src/table.rt:7:1
 returns : tie.Need-returns
-returns c = ?
+returns c =
+    let a = c .before .before .args in
+    omega (arith, by-table (a .min-dim) (a .x) (a .y) (c .before .before .pre))
 
 pub morton-index-by-table-spec : {M : Type 1} → statement M
 morton-index-by-table-spec =

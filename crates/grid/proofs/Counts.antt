@@ -1,0 +1,34 @@
+-- Laws of the number of blocks along a side, over the size of a block. Assumes nothing.
+use mathlib.Core.Path.{_≡_, sym, ap}
+use Prim.Native.Nat.{ℕ, _+_, _-_, _*_, _/_, _%_, _≤_, _<_}
+use native.Mathlib.Nat.{div-add-mod', div-le-self, div-mul-le-self, lt-div-mul-add, le-div-iff-mul-le, mul-le-mul-right, mul-le-mul-left, mod-lt}
+use native.Mathlib.Omega.{arith}
+use Rattle.grid.specs.Grid.{blocks}
+use Rattle.facts.proofs.Numbers.{split}
+
+module _ (size side : ℕ) (pos : 0 < size) where
+  -- a side that the size divides
+  pub exact : side % size ≡ 0 → side / size ≡ blocks size side
+  exact e = sym (split size (side + (size - 1)) (side / size) (size - 1) (omega (arith, div-add-mod' side size)) (omega arith) .0)
+
+  -- any other has one block more, which the picture clips
+  pub clipped : (side % size ≡ 0 → ⊥) → side / size + 1 ≡ blocks size side
+  clipped n =
+      sym (split size (side + (size - 1)) (side / size + 1) (side % size - 1) (omega (arith, div-add-mod' side size)) (omega (arith, mod-lt side pos)) .0)
+
+  -- there are no more blocks than texels
+  pub fits : (side % size ≡ 0 → ⊥) → side / size + 1 ≤ side
+  fits n = omega (arith, div-add-mod' side size, mul-le-mul-left (side / size) pos)
+
+  pub blocks-pos : 0 < side → 0 < blocks size side
+  blocks-pos h = le-div-iff-mul-le {x = 1} {y = side + (size - 1)} pos .1 (omega arith)
+
+  pub blocks-le : blocks size side ≤ side + (size - 1)
+  blocks-le = div-le-self (side + (size - 1)) size
+
+  -- the blocks cover the side, and the last of them starts within it
+  pub blocks-cover : side ≤ blocks size side * size
+  blocks-cover = omega (arith, lt-div-mul-add {a = side + (size - 1)} pos)
+
+  pub blocks-tight : blocks size side * size < side + size
+  blocks-tight = omega (arith, div-mul-le-self (side + (size - 1)) size)

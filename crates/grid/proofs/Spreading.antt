@@ -1,0 +1,68 @@
+-- Laws of spread bits, and the address by them. Assumes nothing.
+use mathlib.Core.Path.{_≡_, refl, sym, ap, _∙_}
+use Prim.Native.Nat.{ℕ, zero, suc, _+_, _-_, _*_, _/_, _%_, _^_, _≤_, _<_}
+use native.Mathlib.Nat.{zero-add, suc-add, pow-succ', div-one, mod-lt, div-eq-of-lt, div-add-mod'}
+use native.Mathlib.Numerals.{add-one}
+use native.Mathlib.Omega.{arith}
+use lib.Bits.{bitAnd}
+use lib.Pow.{pow-pos, field, mod-mod-pow}
+use Rattle.facts.proofs.Powers.{pow-le-cancel, shift}
+use Rattle.grid.specs.Grid.{log2, address, spreadBits, Placed}
+use Rattle.grid.proofs.Powers.{mask-mod}
+
+pub spread-lt : (k v : ℕ) → spreadBits k v < 4 ^ k
+unfolding spreadBits
+spread-lt zero v = omega arith
+spread-lt (suc k) v = omega (arith, spread-lt k (v / 2))
+
+-- the low bits, and above them the others
+pub spread-add : (i j v : ℕ) → spreadBits (i + j) v ≡ spreadBits i v + 4 ^ i * spreadBits j (v / 2 ^ i)
+unfolding spreadBits
+spread-add zero j v = simp (zero-add, div-one) (omega arith)
+spread-add (suc i) j v = rw (suc-add, ← shift 2 v i, pow-succ' 4 i) (omega (arith, spread-add i j (v / 2)))
+
+spread-zero : (k : ℕ) → spreadBits k 0 ≡ 0
+unfolding spreadBits
+spread-zero zero = refl
+spread-zero (suc k) = omega (arith, spread-zero k)
+
+mod-half : (v k : ℕ) → v % 2 ^ suc k / 2 ≡ v / 2 % 2 ^ k
+mod-half v k = rw (← add-one k) (field v k 1)
+
+mod-odd : (v k : ℕ) → v % 2 ^ suc k % 2 ≡ v % 2
+mod-odd v k = rw (← add-one k) (mod-mod-pow v k 1)
+
+-- only the k low bits count
+pub spread-mod : (k v : ℕ) → spreadBits k (v % 2 ^ k) ≡ spreadBits k v
+unfolding spreadBits
+spread-mod zero v = refl
+spread-mod (suc k) v = rw (mod-half v k, mod-odd v k, spread-mod k (v / 2))
+
+-- the k low bits, spread among more that are 0
+spread-low : (k d v : ℕ) → spreadBits (k + d) (v % 2 ^ k) ≡ spreadBits k v
+spread-low k d v =
+    spread-add k d (v % 2 ^ k) ∙ rw (div-eq-of-lt (mod-lt v (pow-pos k)), spread-zero d, spread-mod k v) (omega arith)
+
+-- the address is the low bits of both, spread, and above them what is left
+pub address-spread : (k x y : ℕ) → address k x y ≡ (x / 2 ^ k + y / 2 ^ k) * (2 ^ k * 2 ^ k) + (spreadBits k x * 2 + spreadBits k y)
+unfolding address spreadBits
+address-spread zero x y = simp div-one (omega arith)
+address-spread (suc k) x y =
+    rw (← shift 2 x k, ← shift 2 y k, pow-succ' 2 k) (omega (arith, address-spread k (x / 2) (y / 2)))
+
+-- what the table's form computes is the address
+module _ (m x y : ℕ) (p : Placed m x y) where
+  low-bits : (v : ℕ) → spreadBits 16 (bitAnd v (m - 1)) ≡ spreadBits (log2 m) v
+  low-bits v =
+      let k : ℕ = log2 m in
+      let few : k ≤ 16 = pow-le-cancel {b = 16} (omega (arith, p .power, p .small)) in
+      let all : k + (16 - k) ≡ 16 = omega arith in
+      ap (spreadBits 16) (mask-mod k v m (p .power) ∙ ap (λ (n : ℕ). v % n) (p .power))
+      ∙ ap (λ (n : ℕ). spreadBits n (v % 2 ^ k)) (sym all) ∙ spread-low k (16 - k) v
+
+  above : (v : ℕ) → v - bitAnd v (m - 1) ≡ v / m * m
+  above v = omega (arith, mask-mod (log2 m) v m (p .power), div-add-mod' v m)
+
+  pub by-table : ((x - bitAnd x (m - 1)) + (y - bitAnd y (m - 1))) * m + (spreadBits 16 (bitAnd x (m - 1)) * 2 + spreadBits 16 (bitAnd y (m - 1))) ≡ address (log2 m) x y
+  by-table =
+      rw (above x, above y, low-bits x, low-bits y, address-spread (log2 m) x y, ← p .power) (omega arith)

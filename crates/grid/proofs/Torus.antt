@@ -1,0 +1,39 @@
+-- Laws of neighbours on the torus. Assumes nothing.
+use mathlib.Core.Path.{_≡_, sym, ap, _∙_}
+use Prim.Native.Nat.{ℕ, _+_, _-_, _*_, _/_, _%_, _^_, _≤_, _<_}
+use native.Mathlib.Nat.{add-mod-right, add-mul-mod-self-right, mod-lt, mod-eq-of-lt, div-add-mod'}
+use native.Mathlib.Omega.{arith}
+use lib.Pow.{pow-pos}
+use Rattle.facts.proofs.Powers.{pow-split}
+use Rattle.grid.specs.Grid.{beside}
+
+-- a neighbour is a block of the side
+pub beside-below : (g q k : ℕ) → 0 < g → beside g q k < g
+unfolding beside
+beside-below g q k h = mod-lt (q + k + g - 1) h
+
+-- a block is its own middle neighbour
+pub beside-own : (g q : ℕ) → q < g → beside g q 1 ≡ q
+unfolding beside
+beside-own g q h = ap (λ (n : ℕ). n % g) (omega arith) ∙ add-mod-right q g ∙ mod-eq-of-lt h
+
+-- how often a side goes into the machine's numbers
+module _ (k side : ℕ) (e : side ≡ 2 ^ k) (h : k ≤ 64) where
+  whole : 2 ^ (64 - k) * side ≡ 2 ^ 64
+  whole = ap (λ (n : ℕ). 2 ^ (64 - k) * n) e ∙ pow-split 64 k h
+
+  -- one less, round the machine number and then round the side
+  pub wraps-back : (c w : ℕ) → (w + 1) % 2 ^ 64 ≡ c → w % side ≡ beside side c 0
+  unfolding beside
+  wraps-back c w m =
+      let t : ℕ = (w + 1) / 2 ^ 64 * 2 ^ (64 - k) in
+      let sum : w + side ≡ (c + 0 + side - 1) + t * side = omega (arith, ap (λ (n : ℕ). (w + 1) / 2 ^ 64 * n) whole, pow-pos k) in
+      sym (add-mod-right w side) ∙ ap (λ (n : ℕ). n % side) sum ∙ add-mul-mod-self-right (c + 0 + side - 1) t side
+
+  -- one more, likewise
+  pub wraps-on : (c w : ℕ) → w ≡ (c + 1) % 2 ^ 64 → w % side ≡ beside side c 2
+  unfolding beside
+  wraps-on c w m =
+      let t : ℕ = (c + 1) / 2 ^ 64 * 2 ^ (64 - k) in
+      let sum : w + t * side + side ≡ c + 2 + side - 1 = omega (arith, ap (λ (n : ℕ). (c + 1) / 2 ^ 64 * n) whole, pow-pos k) in
+      sym (add-mul-mod-self-right w t side) ∙ sym (add-mod-right (w + t * side) side) ∙ ap (λ (n : ℕ). n % side) sum
