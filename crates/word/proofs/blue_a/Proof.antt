@@ -1,40 +1,32 @@
+-- `word::blue_a` meets its contract. The branch's test decides whether the colour is opaque, and each arm is the definition's. Assumes nothing.
 use borrow.Author.Needs.{needs}
+use borrow.Author.Tests.{eq-eqb, ne-eqb}
 use Rattle.word.proofs.blue_a.Statement.{statement}
 use Rattle.word.proofs.blue_a.Tie as tie
-use Rattle.word.proofs.blue_a.Reads as reads
-use Rattle.word.proofs.blue_a.Lts as lts
 
--- src/lib.rt:56:10
 mul-result : tie.Need-mul-result
 mul-result c = search needs
 
--- src/lib.rt:56:10
 add-result : tie.Need-add-result
 add-result c = search needs
 
--- src/lib.rt:56:9
 cast-result : tie.Need-cast-result
 cast-result c = search needs
 
--- src/lib.rt:58:10
 mul-result-2 : tie.Need-mul-result-2
 mul-result-2 c = search needs
 
--- src/lib.rt:58:10
 add-result-2 : tie.Need-add-result-2
 add-result-2 c = search needs
 
--- src/lib.rt:58:9
 cast-result-2 : tie.Need-cast-result-2
 cast-result-2 c = search needs
 
--- src/lib.rt:52:1
 returns : tie.Need-returns
-returns c = ?
+returns c = simp (eq-eqb _ _ (c .if1 .taken))
 
--- src/lib.rt:52:1
 returns-2 : tie.Need-returns-2
-returns-2 c = ?
+returns-2 c = simp (ne-eqb _ _ (c .if1 .left))
 
 pub blue-a-spec : {M : Type 1} → statement M
 blue-a-spec =

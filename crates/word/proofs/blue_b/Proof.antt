@@ -1,32 +1,27 @@
+-- `word::blue_b` meets its contract. The branch's test decides whether the colour is opaque, and each arm is the definition's. Assumes nothing.
+use native.Mathlib.Nat.{div-one}
 use borrow.Author.Needs.{needs}
+use borrow.Author.Tests.{eq-eqb, ne-eqb}
 use Rattle.word.proofs.blue_b.Statement.{statement}
 use Rattle.word.proofs.blue_b.Tie as tie
-use Rattle.word.proofs.blue_b.Reads as reads
-use Rattle.word.proofs.blue_b.Lts as lts
 
--- src/lib.rt:66:9
 cast-result : tie.Need-cast-result
 cast-result c = search needs
 
--- src/lib.rt:68:10
 mul-result : tie.Need-mul-result
 mul-result c = search needs
 
--- src/lib.rt:68:10
 add-result : tie.Need-add-result
 add-result c = search needs
 
--- src/lib.rt:68:9
 cast-result-2 : tie.Need-cast-result-2
 cast-result-2 c = search needs
 
--- src/lib.rt:62:1
 returns : tie.Need-returns
-returns c = ?
+returns c = simp (eq-eqb _ _ (c .if1 .taken), div-one)
 
--- src/lib.rt:62:1
 returns-2 : tie.Need-returns-2
-returns-2 c = ?
+returns-2 c = simp (ne-eqb _ _ (c .if1 .left), div-one)
 
 pub blue-b-spec : {M : Type 1} → statement M
 blue-b-spec =

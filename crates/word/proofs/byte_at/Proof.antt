@@ -1,20 +1,22 @@
+-- `word::byte_at` meets its contract. Past the end of the list the entry asked for is the default, 0. Assumes nothing.
+use mathlib.Core.Path.{sym}
+use Prim.Native.Nat.{_≤_}
+use native.Mathlib.Omega.{arith}
+use lib.ListN.{length, List·getD-eq-default}
 use borrow.Author.Needs.{needs}
 use Rattle.word.proofs.byte_at.Statement.{statement}
 use Rattle.word.proofs.byte_at.Tie as tie
-use Rattle.word.proofs.byte_at.Reads as reads
-use Rattle.word.proofs.byte_at.Lts as lts
 
--- src/lib.rt:42:25
 shared-slice-read-result : tie.Need-shared-slice-read-result
 shared-slice-read-result c = search needs
 
--- src/lib.rt:39:1
 returns : tie.Need-returns
 returns c = search needs
 
--- src/lib.rt:39:1
 returns-2 : tie.Need-returns-2
-returns-2 c = ?
+returns-2 c =
+    let past : length (c .before .args .«data» .now) ≤ c .before .args .i = omega arith in
+    sym (List·getD-eq-default (c .before .args .«data» .now) 0 past)
 
 pub byte-at-spec : {M : Type 1} → statement M
 byte-at-spec = tie.close (tie.spec shared-slice-read-result returns returns-2)

@@ -1,23 +1,25 @@
+-- `word::weights::fill_2bpp` meets its contract. The tests are those of the definition. Assumes nothing.
+use native.Mathlib.Nat.{div-one}
+use borrow.Author.Tests.{eq-eqb, ne-eqb}
+use Rattle.word.specs.Word.{fill2}
 use Rattle.word.proofs.weights.fill_2bpp.Statement.{statement}
 use Rattle.word.proofs.weights.fill_2bpp.Tie as tie
-use Rattle.word.proofs.weights.fill_2bpp.Reads as reads
-use Rattle.word.proofs.weights.fill_2bpp.Lts as lts
 
--- src/weights.rt:127:17
 returns : tie.Need-returns
-returns c = ?
+unfolding fill2
+returns c = simp (div-one, c .before .before .if1 .taken, eq-eqb _ _ (c .before .if2 .taken), eq-eqb _ _ (c .if3 .taken))
 
--- src/weights.rt:129:13
 returns-2 : tie.Need-returns-2
-returns-2 c = ?
+unfolding fill2
+returns-2 c = simp (div-one, c .before .before .if1 .taken, eq-eqb _ _ (c .before .if2 .taken), ne-eqb _ _ (c .if3 .left))
 
--- src/weights.rt:131:9
 returns-3 : tie.Need-returns-3
-returns-3 c = ?
+unfolding fill2
+returns-3 c = simp (div-one, c .before .if1 .taken, ne-eqb _ _ (c .if2 .left))
 
--- src/weights.rt:121:1
 returns-4 : tie.Need-returns-4
-returns-4 c = ?
+unfolding fill2
+returns-4 c = rw (c .if1 .left)
 
 pub fill-2bpp-spec : {M : Type 1} → statement M
 fill-2bpp-spec = tie.close (tie.spec returns returns-2 returns-3 returns-4)

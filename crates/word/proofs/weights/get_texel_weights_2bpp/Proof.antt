@@ -1,57 +1,67 @@
+-- `word::weights::get_texel_weights_2bpp` meets its contract. The loop's invariant: the first i weights are stored. The measure is what is left
+-- of the 32. Assumes nothing.
+use mathlib.Core.Path.{_≡_}
+use mathlib.Core.Bool.{Bool}
+use mathlib.Core.List.{List}
+use Prim.Native.Nat.{ℕ, _-_, _≤_}
+use native.Mathlib.Omega.{arith}
+use denote.Ref.{now}
+use lib.ListN.{length}
+use borrow.Author.Needs.{needs}
+use Rattle.facts.specs.Tab.{tab}
+use Rattle.facts.proofs.Tab.{Filled, filled-none, filled-more, filled-end}
+use Rattle.word.specs.Word.{modulation, mode, weight2, fill2, withWeights2}
+use Rattle.word.specs.declared.Fill.{Fill}
+use Rattle.word.specs.declared.PVRTCTexelInfo.{PVRTCTexelInfo}
 use Rattle.word.proofs.weights.get_texel_weights_2bpp.Statement.{statement}
 use Rattle.word.proofs.weights.get_texel_weights_2bpp.Tie as tie
-use Rattle.word.proofs.weights.get_texel_weights_2bpp.Reads as reads
-use Rattle.word.proofs.weights.get_texel_weights_2bpp.Lts as lts
-use Rattle.word.proofs.weights.fill_2bpp.Reads as fill-2bpp-reads
-use Rattle.word.proofs.weights.mode.Reads as mode-reads
-use Rattle.word.proofs.weights.modulation.Reads as modulation-reads
-use Rattle.word.proofs.weights.weight_2bpp.Reads as weight-2bpp-reads
+
+-- what the calls and the loop leave is the definition's record
+ends : (d : List ℕ) (i : PVRTCTexelInfo) {one : Bool} {m : ℕ} {w : List ℕ} {f : Fill} → one ≡ mode d → m ≡ modulation d → f ≡ fill2 one m → w ≡ tab (weight2 one m) 32
+    → record { a = i .a; b = i .b; weight = w; «punch_through_flag» = 0; fill = f } ≡ withWeights2 d i
+ends d i e k l h = cc
 
 abbrev Inv-loop : tie.InvT-loop
-Inv-loop «data» one m a b weight₀ i₀ weight i = ?
+Inv-loop «data» one m a b weight₀ i₀ weight i = (i ≤ 32) × Filled (weight2 one m) weight₀ i weight
 
 abbrev μ-loop : tie.MeasureT-loop
-μ-loop «data» one m a b weight₀ i₀ weight i = ?
+μ-loop «data» one m a b weight₀ i₀ weight i = 32 - i
 
--- src/weights.rt:140:9
 mode-requires : tie.Need-mode-requires Inv-loop μ-loop
-mode-requires c κs = ?
+mode-requires c κs = search needs
 
--- src/weights.rt:141:9
 modulation-requires : tie.Need-modulation-requires Inv-loop μ-loop
-modulation-requires c κs = ?
+modulation-requires c κs = search needs
 
--- src/weights.rt:145:5
 loop-holds : tie.Need-loop-holds Inv-loop μ-loop
-loop-holds c = ?
+loop-holds c = (omega arith, filled-none _ _)
 
--- src/weights.rt:146:21
 weight-2bpp-requires : tie.Need-weight-2bpp-requires Inv-loop μ-loop
-weight-2bpp-requires c κs = ?
+weight-2bpp-requires c κs = search needs
 
--- src/weights.rt:146:9
 array-write-weight : tie.Need-array-write-weight Inv-loop μ-loop
-array-write-weight c = ?
+array-write-weight c = search needs
 
--- src/weights.rt:145:9
 add-i : tie.Need-add-i Inv-loop μ-loop
-add-i c = ?
+add-i c = search needs
 
--- src/weights.rt:145:5
 loop-less : tie.Need-loop-less Inv-loop μ-loop
-loop-less c = ?
+loop-less c = search needs
 
--- src/weights.rt:145:5
 loop-again : tie.Need-loop-again Inv-loop μ-loop
-loop-again c = ?
+loop-again c =
+    let a = c .before .before .before .before .before .before .before .before .before in
+    let e : length (a .args .info .weight) ≡ 32 = search (needs, a .good .1 .0 .1 .1 .1 .1 .0) in
+    (omega arith, filled-more (c .before .before .loop .inv .1) (c .weight-2bpp .ensures) (omega arith))
 
--- src/weights.rt:153:15
 fill-2bpp-requires : tie.Need-fill-2bpp-requires Inv-loop μ-loop
-fill-2bpp-requires c κs = ?
+fill-2bpp-requires c κs = search needs
 
--- src/weights.rt:137:1
 returns : tie.Need-returns Inv-loop μ-loop
-returns c = ?
+returns c =
+    let a = c .before .before .before .before .before .before .before .before .before in
+    let e : length (a .args .info .weight) ≡ 32 = search (needs, a .good .1 .0 .1 .1 .1 .1 .0) in
+    ends (now (a .args .«data»)) (a .args .info) (c .before .before .before .before .before .before .before .mode .ensures) (c .before .before .before .before .before .before .modulation .ensures) (c .fill-2bpp .ensures) (filled-end 32 (c .before .before .loop .inv .1) (omega arith) e)
 
 pub get-texel-weights-2bpp-spec : {M : Type 1} → statement M
 get-texel-weights-2bpp-spec =

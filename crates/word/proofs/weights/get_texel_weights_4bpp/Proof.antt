@@ -1,57 +1,68 @@
+-- `word::weights::get_texel_weights_4bpp` meets its contract. The loop's invariant: the first i weights are stored, and the first i bits of the
+-- flag. The measure is what is left of the 16. Assumes nothing.
+use mathlib.Core.Path.{_≡_}
+use mathlib.Core.Bool.{Bool}
+use mathlib.Core.List.{List}
+use Prim.Native.Nat.{ℕ, _-_, _≤_}
+use native.Mathlib.Omega.{arith}
+use denote.Ref.{now}
+use lib.ListN.{length}
+use borrow.Author.Needs.{needs}
+use Rattle.facts.proofs.Bits.{Flagged, flagged-none, flagged-more}
+use Rattle.facts.proofs.Tab.{Filled, filled-none, filled-more}
+use Rattle.word.specs.Word.{modulation, mode, weight4, punch4, withWeights4}
+use Rattle.word.specs.declared.Fill.the-variants.{Nothing}
+use Rattle.word.specs.declared.PVRTCTexelInfo.{PVRTCTexelInfo}
 use Rattle.word.proofs.weights.get_texel_weights_4bpp.Statement.{statement}
 use Rattle.word.proofs.weights.get_texel_weights_4bpp.Tie as tie
-use Rattle.word.proofs.weights.get_texel_weights_4bpp.Reads as reads
-use Rattle.word.proofs.weights.get_texel_weights_4bpp.Lts as lts
-use Rattle.word.proofs.weights.mode.Reads as mode-reads
-use Rattle.word.proofs.weights.modulation.Reads as modulation-reads
-use Rattle.word.proofs.weights.punch_4bpp.Reads as punch-4bpp-reads
-use Rattle.word.proofs.weights.weight_4bpp.Reads as weight-4bpp-reads
+
+-- what the calls and the loop leave is the definition's record
+ends : (d : List ℕ) (i : PVRTCTexelInfo) {one : Bool} {m n f : ℕ} {w : List ℕ} → n ≡ 16 → one ≡ mode d → m ≡ modulation d
+    → Filled (weight4 one m) (i .weight) n w → Flagged (punch4 one m) n f
+    → record { a = i .a; b = i .b; weight = w; «punch_through_flag» = f; fill = Nothing } ≡ withWeights4 d i
+ends d i en e k h l = cc
 
 abbrev Inv-loop : tie.InvT-loop
-Inv-loop «data» one m a b weight₀ flag₀ i₀ weight flag i = ?
+Inv-loop «data» one m a b weight₀ flag₀ i₀ weight flag i = (i ≤ 16) × Filled (weight4 one m) weight₀ i weight × Flagged (punch4 one m) i flag
 
 abbrev μ-loop : tie.MeasureT-loop
-μ-loop «data» one m a b weight₀ flag₀ i₀ weight flag i = ?
+μ-loop «data» one m a b weight₀ flag₀ i₀ weight flag i = 16 - i
 
--- src/weights.rt:69:9
 mode-requires : tie.Need-mode-requires Inv-loop μ-loop
-mode-requires c κs = ?
+mode-requires c κs = search needs
 
--- src/weights.rt:70:9
 modulation-requires : tie.Need-modulation-requires Inv-loop μ-loop
-modulation-requires c κs = ?
+modulation-requires c κs = search needs
 
--- src/weights.rt:75:5
 loop-holds : tie.Need-loop-holds Inv-loop μ-loop
-loop-holds c = ?
+loop-holds c = (omega arith, filled-none _ _, flagged-none _)
 
--- src/weights.rt:76:21
 weight-4bpp-requires : tie.Need-weight-4bpp-requires Inv-loop μ-loop
-weight-4bpp-requires c κs = ?
+weight-4bpp-requires c κs = search needs
 
--- src/weights.rt:76:9
 array-write-weight : tie.Need-array-write-weight Inv-loop μ-loop
-array-write-weight c = ?
+array-write-weight c = search needs
 
--- src/weights.rt:77:17
 punch-4bpp-requires : tie.Need-punch-4bpp-requires Inv-loop μ-loop
-punch-4bpp-requires c κs = ?
+punch-4bpp-requires c κs = search needs
 
--- src/weights.rt:75:9
 add-i : tie.Need-add-i Inv-loop μ-loop
-add-i c = ?
+add-i c = search needs
 
--- src/weights.rt:75:5
 loop-less : tie.Need-loop-less Inv-loop μ-loop
-loop-less c = ?
+loop-less c = search needs
 
--- src/weights.rt:75:5
 loop-again : tie.Need-loop-again Inv-loop μ-loop
-loop-again c = ?
+loop-again c =
+    let a = c .before .before .before .before .before .before .before .before .before .before in
+    let l = c .before .before .before .loop in
+    let e : length (a .args .info .weight) ≡ 32 = search (needs, a .good .1 .0 .1 .1 .1 .1 .0) in
+    (omega arith, filled-more (l .inv .1) (c .before .weight-4bpp .ensures) (omega arith), flagged-more (l .inv .2) (c .punch-4bpp .ensures))
 
--- src/weights.rt:66:1
 returns : tie.Need-returns Inv-loop μ-loop
-returns c = ?
+returns c =
+    let a = c .before .before .before .before .before .before .before .before in
+    ends (now (a .args .«data»)) (a .args .info) (omega arith) (c .before .before .before .before .before .before .mode .ensures) (c .before .before .before .before .before .modulation .ensures) (c .before .loop .inv .1) (c .before .loop .inv .2)
 
 pub get-texel-weights-4bpp-spec : {M : Type 1} → statement M
 get-texel-weights-4bpp-spec =

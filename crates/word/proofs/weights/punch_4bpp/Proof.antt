@@ -1,40 +1,41 @@
+-- `word::weights::punch_4bpp` meets its contract. The tests are those of the definition, and 2 ^ i with i below 16 fits. Assumes nothing.
+use Prim.Native.Nat.{_<_, _^_}
+use native.Mathlib.Omega.{arith}
+use lib.Pow.{pow-lt}
 use borrow.Author.Needs.{needs}
+use borrow.Author.Tests.{eq-eqb, ne-eqb}
+use Rattle.word.specs.Word.{punch4}
 use Rattle.word.proofs.weights.punch_4bpp.Statement.{statement}
 use Rattle.word.proofs.weights.punch_4bpp.Tie as tie
-use Rattle.word.proofs.weights.punch_4bpp.Reads as reads
-use Rattle.word.proofs.weights.punch_4bpp.Lts as lts
 
--- src/weights.rt:58:19
 mul-if2 : tie.Need-mul-if2
 mul-if2 c = search needs
 
--- src/weights.rt:58:19
 cast-if2 : tie.Need-cast-if2
 cast-if2 c = search needs
 
--- src/weights.rt:58:13
 shr-if2 : tie.Need-shr-if2
 shr-if2 c = search needs
 
--- src/weights.rt:59:25
 cast-result : tie.Need-cast-result
 cast-result c = search needs
 
--- src/weights.rt:59:20
 shl-result : tie.Need-shl-result
 shl-result c = search needs
 
--- src/weights.rt:59:13
 returns : tie.Need-returns
-returns c = ?
+unfolding punch4
+returns c =
+    let h : 2 ^ (c .before .before .args .i) < 2 ^ 16 = pow-lt (c .before .before .pre) in
+    rw (c .before .if1 .taken, eq-eqb _ _ (c .if2 .taken)) (omega arith)
 
--- src/weights.rt:53:1
 returns-2 : tie.Need-returns-2
-returns-2 c = ?
+unfolding punch4
+returns-2 c = simp (c .before .if1 .taken, ne-eqb _ _ (c .if2 .left))
 
--- src/weights.rt:53:1
 returns-3 : tie.Need-returns-3
-returns-3 c = ?
+unfolding punch4
+returns-3 c = rw (c .if1 .left)
 
 pub punch-4bpp-spec : {M : Type 1} → statement M
 punch-4bpp-spec =

@@ -1,52 +1,51 @@
+-- `word::weights::stored_weight` meets its contract. The tests are those of the definition, and a table's weight is at most 8, so that 3 more fits.
+-- Assumes nothing.
+use Prim.Native.Nat.{_/_}
+use native.Mathlib.Nat.{div-one}
+use native.Mathlib.Omega.{arith}
 use borrow.Author.Needs.{needs}
+use borrow.Author.Tests.{eq-eqb, ne-eqb}
+use Rattle.word.specs.Word.{stored2}
+use Rattle.word.proofs.Bounds.{standard-le}
 use Rattle.word.proofs.weights.stored_weight.Statement.{statement}
 use Rattle.word.proofs.weights.stored_weight.Tie as tie
-use Rattle.word.proofs.weights.stored_weight.Reads as reads
-use Rattle.word.proofs.weights.stored_weight.Lts as lts
 
--- src/weights.rt:93:21
 mul-c : tie.Need-mul-c
 mul-c c = search needs
 
--- src/weights.rt:93:21
 cast-c : tie.Need-cast-c
 cast-c c = search needs
 
--- src/weights.rt:93:15
 shr-c : tie.Need-shr-c
 shr-c c = search needs
 
--- src/weights.rt:93:13
 cast-c-2 : tie.Need-cast-c-2
 cast-c-2 c = search needs
 
--- src/weights.rt:94:13
 array-read-w : tie.Need-array-read-w
 array-read-w c = search needs
 
--- src/weights.rt:96:17
 add-result : tie.Need-add-result
-add-result c = ?
+add-result c = omega (arith, standard-le (c .before .args .m) (c .before .args .i / 2))
 
--- src/weights.rt:96:9
 returns : tie.Need-returns
-returns c = ?
+unfolding stored2
+returns c = simp (eq-eqb (c .before .args .i) 0 (omega arith))
 
--- src/weights.rt:100:21
 add-result-2 : tie.Need-add-result-2
-add-result-2 c = ?
+add-result-2 c = omega (arith, standard-le (c .before .before .before .args .m) (c .before .before .before .args .i / 2))
 
--- src/weights.rt:100:13
 returns-2 : tie.Need-returns-2
-returns-2 c = ?
+unfolding stored2
+returns-2 c = simp (div-one, ne-eqb _ _ (c .before .before .if1 .left), eq-eqb _ _ (c .before .if2 .taken), eq-eqb _ _ (c .if3 .taken))
 
--- src/weights.rt:89:1
 returns-3 : tie.Need-returns-3
-returns-3 c = ?
+unfolding stored2
+returns-3 c = simp (div-one, ne-eqb _ _ (c .before .before .if1 .left), eq-eqb _ _ (c .before .if2 .taken), ne-eqb _ _ (c .if3 .left))
 
--- src/weights.rt:89:1
 returns-4 : tie.Need-returns-4
-returns-4 c = ?
+unfolding stored2
+returns-4 c = simp (ne-eqb _ _ (c .before .if1 .left), ne-eqb _ _ (c .if2 .left))
 
 pub stored-weight-spec : {M : Type 1} → statement M
 stored-weight-spec =

@@ -1,41 +1,38 @@
+-- `word::weights::weight_2bpp` meets its contract. The tests are those of the definition. Assumes nothing.
+use mathlib.Core.Path.{_∙_, sym}
 use borrow.Author.Needs.{needs}
+use borrow.Author.Tests.{eq-eqb, ne-eqb}
+use Rattle.word.specs.Word.{weight2}
 use Rattle.word.proofs.weights.weight_2bpp.Statement.{statement}
 use Rattle.word.proofs.weights.weight_2bpp.Tie as tie
-use Rattle.word.proofs.weights.weight_2bpp.Reads as reads
-use Rattle.word.proofs.weights.weight_2bpp.Lts as lts
-use Rattle.word.proofs.weights.stored_weight.Reads as stored-weight-reads
 
--- src/weights.rt:112:13
 add-if2 : tie.Need-add-if2
 add-if2 c = search needs
 
--- src/weights.rt:113:13
 stored-weight-requires : tie.Need-stored-weight-requires
 stored-weight-requires c κs = search needs
 
--- src/weights.rt:113:13
 returns : tie.Need-returns
-returns c = ?
+unfolding weight2
+returns c = c .stored-weight .ensures ∙ sym (simp (c .before .before .if1 .taken, eq-eqb _ _ (c .before .if2 .taken)))
 
--- src/weights.rt:115:9
 returns-2 : tie.Need-returns-2
-returns-2 c = ?
+unfolding weight2
+returns-2 c = simp (c .before .if1 .taken, ne-eqb _ _ (c .if2 .left))
 
--- src/weights.rt:117:14
 cast-if3 : tie.Need-cast-if3
 cast-if3 c = search needs
 
--- src/weights.rt:117:9
 shr-if3 : tie.Need-shr-if3
 shr-if3 c = search needs
 
--- src/weights.rt:107:1
 returns-3 : tie.Need-returns-3
-returns-3 c = ?
+unfolding weight2
+returns-3 c = simp (c .before .if1 .left, eq-eqb _ _ (c .if3 .taken))
 
--- src/weights.rt:107:1
 returns-4 : tie.Need-returns-4
-returns-4 c = ?
+unfolding weight2
+returns-4 c = simp (c .before .if1 .left, ne-eqb _ _ (c .if3 .left))
 
 pub weight-2bpp-spec : {M : Type 1} → statement M
 weight-2bpp-spec =
