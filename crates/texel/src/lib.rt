@@ -1,0 +1,1 @@
+// One texel of a picture.
