@@ -105,7 +105,7 @@ pub fn get_texel_colors(data: &[u8], info: PVRTCTexelInfo) -> PVRTCTexelInfo
 }
 
 // The record before anything is read into it.
-fn unread_info() -> PVRTCTexelInfo
+pub fn unread_info() -> PVRTCTexelInfo
     ensures { λ r. ⌜ r ≡ unread ⌝ }
 {
     let black = PVRTCTexelColor {
