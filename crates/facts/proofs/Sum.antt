@@ -2,7 +2,8 @@
 use mathlib.Core.Path.{_≡_, refl, ap, ap₂, sym, subst}
 use mathlib.Core.Logic.{⊎-elim}
 use Prim.Native.Nat.{ℕ, zero, suc, _+_, _*_, _≤_, _<_}
-use native.Mathlib.Nat.{not-suc-le-zero, le-of-suc-le-suc, eq-or-lt-of-le}
+use native.Mathlib.Nat.{add-zero, add-suc, mul-le-mul-right, not-suc-le-zero, le-of-suc-le-suc, eq-or-lt-of-le}
+use native.Mathlib.Numerals.{add-one}
 use native.Mathlib.Omega.{arith}
 use Rattle.facts.specs.Sum.{sum}
 
@@ -28,8 +29,24 @@ term-le f (suc n) k h =
     (λ lt. omega (arith, term-le f n k lt))
     (eq-or-lt-of-le (le-of-suc-le-suc h))
 
+-- a longer sum is no smaller
+pub sum-front : (f : ℕ → ℕ) (m n : ℕ) → sum f m ≤ sum f (m + n)
+unfolding sum
+sum-front f m zero = rw (add-zero m) (omega arith)
+sum-front f m (suc n) = rw (add-suc m n) (omega (arith, sum-front f m n))
+
+-- one term more, as a loop's next number has it
+pub sum-more : (f : ℕ → ℕ) (n : ℕ) → sum f (n + 1) ≡ sum f n + f n
+unfolding sum
+sum-more f n = ap (sum f) (add-one n)
+
 -- a common factor
 pub sum-times : (f : ℕ → ℕ) (m n : ℕ) → sum (λ k. m * f k) n ≡ m * sum f n
 unfolding sum
 sum-times f m zero = omega arith
 sum-times f m (suc n) = omega (arith, sum-times f m n)
+
+-- a sum of products is at most the largest first factor times the sum of the second ones
+pub products-le : (f g : ℕ → ℕ) (m n : ℕ) → ((k : ℕ) → k < n → f k ≤ m) → sum (λ k. f k * g k) n ≤ m * sum g n
+products-le f g m n h =
+    rw (← sum-times g m n) (sum-le (λ k. f k * g k) (λ k. m * g k) n (λ k l. mul-le-mul-right (g k) (h k l)))

@@ -1,0 +1,9 @@
+pub mod Fields
+pub mod Images
+pub mod Interpolation
+pub mod IsKhronos
+pub mod Modulation
+pub mod Punched
+pub mod Strip
+pub mod Weights
+pub mod Widening

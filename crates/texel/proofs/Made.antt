@@ -1,0 +1,53 @@
+-- How the equations of the calls inside make the texel, over plain variables. Assumes nothing.
+use mathlib.Core.Path.{_≡_}
+use mathlib.Core.Bool.{Bool, true, false}
+use mathlib.Core.List.{List}
+use Prim.Native.Nat.{ℕ, _+_, _-_, _*_, _/_}
+use Rattle.grid.specs.Grid.{half, blockWidth}
+use Rattle.facts.specs.Bits.{isSet}
+use Rattle.word.specs.declared.Fill.{Fill}
+use Rattle.word.specs.declared.Fill.the-variants.{Nothing, Around, AboveBelow, LeftRight}
+use Rattle.word.specs.declared.PVRTCTexelInfo.{PVRTCTexelInfo}
+use Rattle.texel.specs.declared.PVRTCTexelColorInt.{PVRTCTexelColorInt}
+use Rattle.texel.specs.Texel.{Words, nineSum, blended, packed, blend, near, filled, ruleAt, mixed, texelIn}
+use Rattle.texel.specs.Inner.{nineOf, sumsTo, toBytes, pixel}
+
+module _ (s t : PVRTCTexelColorInt) (w : ℕ) {p : Bool} {r g b x : ℕ} where
+  pub punched : p ≡ true → r ≡ blended (s .r) (t .r) w → g ≡ blended (s .g) (t .g) w → b ≡ blended (s .b) (t .b) w
+      → x ≡ packed (record { r = r; g = g; b = b; a = 0 }) → x ≡ packed (blend (pixel s) (pixel t) w p)
+  punched ep er eg eb ex = cc
+
+  pub whole : {a : ℕ} → p ≡ false → r ≡ blended (s .r) (t .r) w → g ≡ blended (s .g) (t .g) w → b ≡ blended (s .b) (t .b) w
+      → a ≡ blended (s .a) (t .a) w → x ≡ packed (record { r = r; g = g; b = b; a = a }) → x ≡ packed (blend (pixel s) (pixel t) w p)
+  whole ep er eg eb ea ex = cc
+
+pub texel : (two : Bool) (nine : List PVRTCTexelInfo) (px py : ℕ) {sa sb a b : PVRTCTexelColorInt} {w x : ℕ} {p : Bool}
+    → sa ≡ sumsTo (half two) (nineOf nine) false px py 9 → a ≡ toBytes (half two) sa
+    → sb ≡ sumsTo (half two) (nineOf nine) true px py 9 → b ≡ toBytes (half two) sb
+    → w ≡ filled (half two) (ruleAt (nineOf nine 1 1) px py) (nineOf nine) (px + blockWidth two) (py + 4)
+    → p ≡ isSet (nineOf nine 1 1 .«punch_through_flag») (blockWidth two * py + px)
+    → x ≡ packed (blend (pixel a) (pixel b) w p) → x ≡ packed (texelIn (half two) (nineOf nine) px py)
+unfolding texelIn mixed sumsTo nineSum
+texel two nine px py ea eb ec ed ew ep ex = rw (ex, eb, ed, ea, ec, ew, ep)
+
+pub weight : (two : Bool) (nine : List PVRTCTexelInfo) (px py : ℕ) {f : Fill} {w r : ℕ} → f ≡ ruleAt (nineOf nine 1 1) px py → w ≡ blockWidth two
+    → r ≡ filled (half two) f (nineOf nine) (px + w) (py + 4) → r ≡ filled (half two) (ruleAt (nineOf nine 1 1) px py) (nineOf nine) (px + blockWidth two) (py + 4)
+weight two nine px py ef ew er = rw (← ef, ← ew) er
+
+module _ (h : ℕ) (nine : Words) (x y : ℕ) {f : Fill} where
+  pub by-nothing : f ≡ Nothing → {o : ℕ} → o ≡ near h nine x y → o ≡ filled h f nine x y
+  unfolding filled
+  by-nothing e eo = cc
+
+  pub by-around : f ≡ Around → {a b l r : ℕ} → a ≡ near h nine x (y - 1) → b ≡ near h nine x (y + 1) → l ≡ near h nine (x - 1) y → r ≡ near h nine (x + 1) y
+      → (a + b + l + r + 2) / 4 ≡ filled h f nine x y
+  unfolding filled
+  by-around e ea eb el er = cc
+
+  pub by-above-below : f ≡ AboveBelow → {a b : ℕ} → a ≡ near h nine x (y - 1) → b ≡ near h nine x (y + 1) → (a + b + 1) / 2 ≡ filled h f nine x y
+  unfolding filled
+  by-above-below e ea eb = cc
+
+  pub by-left-right : f ≡ LeftRight → {l r : ℕ} → l ≡ near h nine (x - 1) y → r ≡ near h nine (x + 1) y → (l + r + 1) / 2 ≡ filled h f nine x y
+  unfolding filled
+  by-left-right e el er = cc

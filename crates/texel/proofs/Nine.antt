@@ -1,0 +1,81 @@
+-- Laws of the nine words about a block. Assumes nothing.
+use mathlib.Core.Path.{_≡_, refl, sym, ap, subst, _∙_}
+use mathlib.Core.Bool.{Bool, true, false}
+use mathlib.Core.List.{List}
+use Prim.Native.Nat.{ℕ, _+_, _*_, _/_, _%_, _-_, _≤_, _<_, min}
+use native.Mathlib.Nat.{mod-lt}
+use native.Mathlib.Omega.{arith}
+use lib.ListN.{getD, take, drop, length, length-drop}
+use lib.Seq.{take-all}
+use Rattle.facts.proofs.Tab.{getD-tab}
+use Rattle.grid.specs.Grid.{half, blockWidth, log2, address, blockAddress}
+use Rattle.grid.proofs.Onto.{bijective}
+use Rattle.word.specs.Word.{wordOf}
+use Rattle.word.proofs.Bounds.{Small, small-a, small-b, weight-le}
+use Rattle.word.specs.declared.PVRTCTexelInfo.{PVRTCTexelInfo}
+use Rattle.texel.specs.Texel.{packed, near, texelIn, about, texelAt, wordsOf, texelWord}
+use Rattle.texel.specs.Inner.{blank, nineOf, side, nineAbout, Grid, Read}
+use Rattle.texel.proofs.Same.{texel-same}
+use Rattle.texel.proofs.Shares.{half-low}
+
+-- word k of the nine
+pub the-word : (two : Bool) (gx gy : ℕ) (d : List ℕ) (bx by k : ℕ) → k < 9
+    → getD (nineAbout two gx gy d bx by) k blank ≡ about gx gy (wordsOf two gx gy d) bx by (k % 3) (k / 3)
+unfolding nineAbout
+the-word two gx gy d bx by k l = getD-tab (λ k. about gx gy (wordsOf two gx gy d) bx by (k % 3) (k / 3)) 9 k blank l
+
+-- by column and row they are those about the block
+pub by-place : (two : Bool) (gx gy : ℕ) (d : List ℕ) (bx by i j : ℕ) → i < 3 → j < 3
+    → nineOf (nineAbout two gx gy d bx by) i j ≡ about gx gy (wordsOf two gx gy d) bx by i j
+by-place two gx gy d bx by i j hi hj =
+    let across : (3 * j + i) % 3 ≡ i = omega arith in
+    let down : (3 * j + i) / 3 ≡ j = omega arith in
+    the-word two gx gy d bx by (3 * j + i) (omega arith) ∙ rw (across, down)
+
+small-side : (two second : Bool) (d : List ℕ) → Small (side second (wordOf two d))
+small-side two true d = small-b two d
+small-side two false d = small-a two d
+
+low-weight : (two : Bool) (d : List ℕ) (i : ℕ) → i < 4 * blockWidth two → getD (wordOf two d .weight) i 0 ≤ 8
+low-weight true d i l = weight-le true d i l
+low-weight false d i l = weight-le false d i l
+
+-- they were read
+pub read : (two : Bool) (gx gy : ℕ) (d : List ℕ) (bx by : ℕ) → Read two (nineAbout two gx gy d bx by)
+read two gx gy d bx by =
+    record {
+      small = λ second k l. subst (λ (w : PVRTCTexelInfo). Small (side second w)) (sym (the-word two gx gy d bx by k l)) (small-side two second _);
+      low = λ k i l m. subst (λ (w : PVRTCTexelInfo). getD (w .weight) i 0 ≤ 8) (sym (the-word two gx gy d bx by k l)) (low-weight two _ i m);
+    }
+
+-- an index and the weight there, on the strip
+pub near-is : (two : Bool) (nine : List PVRTCTexelInfo) (x y : ℕ) {k i : ℕ} → k ≡ 3 * (y / 4) + x / blockWidth two → i ≡ blockWidth two * (y % 4) + x % blockWidth two
+    → getD (getD nine k blank .weight) i 0 ≡ near (half two) (nineOf nine) x y
+unfolding near
+near-is two nine x y ek ei = rw (ek, ei)
+
+-- the address of a block of the grid, and where its word lies
+pub located : (gx gy len bx by m z : ℕ) → Grid gx gy len → bx < gx → by < gy → m ≡ min gx gy → z ≡ address (log2 m) bx by
+    → (z ≡ blockAddress gx gy bx by) × (8 * z + 8 ≤ len)
+located gx gy len bx by m z g hx hy em ez =
+    let e : z ≡ blockAddress gx gy bx by = ez ∙ ap (λ (n : ℕ). address (log2 n) bx by) em in
+    (e, omega (arith, bijective gx gy (g .power-across) (g .power-down) .within bx by hx hy, g .enough))
+
+-- the word at the start of what is left of the data from o on
+pub word-from : (two : Bool) (d : List ℕ) (o : ℕ) → wordOf two (take (length d - o) (drop o d)) ≡ wordOf two (drop o d)
+word-from two d o = ap (wordOf two) (take-all (length d - o) (drop o d) (omega (arith, length-drop o d)))
+
+-- the texel of the nine words about a block, in an array, is the texel of the run
+pub of-nine : (two : Bool) (gx gy : ℕ) (d : List ℕ) (bx by px py : ℕ) → px < blockWidth two → py < 4
+    → texelIn (half two) (nineOf (nineAbout two gx gy d bx by)) px py ≡ texelIn (half two) (about gx gy (wordsOf two gx gy d) bx by) px py
+of-nine two gx gy d bx by px py lx ly =
+    texel-same (half two) px py (half-low two) lx ly (nineOf (nineAbout two gx gy d bx by)) (about gx gy (wordsOf two gx gy d) bx by)
+    (λ i j a b. by-place two gx gy d bx by i j (a .0) (b .0))
+
+-- so the texel (x, y), from the nine words about its block
+pub at-place : (two : Bool) (gx gy : ℕ) (d : List ℕ) (x y : ℕ) {w r : ℕ} {nine : List PVRTCTexelInfo} → w ≡ blockWidth two
+    → nine ≡ nineAbout two gx gy d (x / w) (y / 4) → r ≡ packed (texelIn (half two) (nineOf nine) (x % w) (y % 4)) → r ≡ texelWord two gx gy d x y
+unfolding texelAt
+at-place two gx gy d x y ew en er =
+    let wide : 0 < blockWidth two = omega (arith, half-low two) in
+    er ∙ rw (en, ew) (ap packed (of-nine two gx gy d (x / blockWidth two) (y / 4) (x % blockWidth two) (y % 4) (mod-lt x wide) (omega arith)))

@@ -1,0 +1,98 @@
+-- How large a texel is: each channel lies between A's and B's, and the word has 32 bits. Assumes nothing.
+use mathlib.Core.Path.{_≡_, refl}
+use mathlib.Core.Bool.{Bool, true, false, cond}
+use mathlib.Core.List.{List}
+use Prim.Native.Nat.{ℕ, _+_, _-_, _*_, _/_, _%_, _^_, _≤_, _<_, min, max}
+use native.Mathlib.Nat.{mod-lt}
+use native.Mathlib.Omega.{arith}
+use lib.ListN.{getD}
+use Rattle.grid.specs.Grid.{half, blockWidth, beside}
+use Rattle.word.specs.Word.{wordOf}
+use Rattle.word.proofs.Bounds.{Small, small-a, small-b, weight-le}
+use Rattle.word.specs.declared.Fill.{Fill}
+use Rattle.word.specs.declared.Fill.the-variants.{Nothing, Around, AboveBelow, LeftRight}
+use Rattle.word.specs.declared.PVRTCTexelColor.{PVRTCTexelColor}
+use Rattle.word.specs.declared.PVRTCTexelInfo.{PVRTCTexelInfo}
+use Rattle.texel.specs.Texel.{Words, nineSum, blended, Pixel, packed, scaled, blend, near, filled, ruleAt, punched, mixed, texelIn, about, texelAt}
+use Rattle.texel.specs.Inner.{side, sumsTo, toBytes, pixel, Bytes}
+use Rattle.texel.proofs.Blend.{between, bytes, word-below}
+use Rattle.texel.proofs.Shares.{half-low}
+use Rattle.texel.proofs.Sums.{sums-low}
+
+-- a pixel whose every channel lies between those of two others; alpha is 0 where it is punched through
+pub record Between (s t p : Pixel) (hole : Bool) : Type 0 where
+  pub r : (min (s .r) (t .r) ≤ p .r) × (p .r ≤ max (s .r) (t .r))
+  pub g : (min (s .g) (t .g) ≤ p .g) × (p .g ≤ max (s .g) (t .g))
+  pub b : (min (s .b) (t .b) ≤ p .b) × (p .b ≤ max (s .b) (t .b))
+  pub a : cond hole (p .a ≡ 0) ((min (s .a) (t .a) ≤ p .a) × (p .a ≤ max (s .a) (t .a)))
+
+pub blend-between : (s t : Pixel) (w : ℕ) (hole : Bool) → w ≤ 8 → Between s t (blend s t w hole) hole
+blend-between s t w hole l =
+    record {
+      r = between (s .r) (t .r) w l;
+      g = between (s .g) (t .g) w l;
+      b = between (s .b) (t .b) w l;
+      a = alpha hole;
+    }
+  where
+    alpha : (hole : Bool)
+        → cond hole (cond hole 0 (blended (s .a) (t .a) w) ≡ 0)
+        ((min (s .a) (t .a) ≤ cond hole 0 (blended (s .a) (t .a) w)) × (cond hole 0 (blended (s .a) (t .a) w) ≤ max (s .a) (t .a)))
+    alpha true = refl
+    alpha false = between (s .a) (t .a) w l
+
+-- words that were read, by column and row
+module _ (two : Bool) (of : ℕ → ℕ → List ℕ) where
+  abbrev pub words : Words
+  words i j = wordOf two (of i j)
+
+  place-lt : (two : Bool) (x y : ℕ) → blockWidth two * (y % 4) + x % blockWidth two < cond two 32 16
+  place-lt true x y = omega arith
+  place-lt false x y = omega arith
+
+  near-le : (x y : ℕ) → near (half two) words x y ≤ 8
+  unfolding near
+  near-le x y = weight-le two (of (x / blockWidth two) (y / 4)) (blockWidth two * (y % 4) + x % blockWidth two) (place-lt two x y)
+
+  -- no weight is above 8, filled or not
+  pub filled-le : (f : Fill) (x y : ℕ) → filled (half two) f words x y ≤ 8
+  unfolding filled
+  filled-le Nothing x y = near-le x y
+  filled-le Around x y = omega (arith, near-le x (y - 1), near-le x (y + 1), near-le (x - 1) y, near-le (x + 1) y)
+  filled-le AboveBelow x y = omega (arith, near-le x (y - 1), near-le x (y + 1))
+  filled-le LeftRight x y = omega (arith, near-le (x - 1) y, near-le (x + 1) y)
+
+  small-side : (second : Bool) (i j : ℕ) → Small (side second (words i j))
+  small-side true i j = small-b two (of i j)
+  small-side false i j = small-a two (of i j)
+
+  module _ (px py : ℕ) (lx : px < blockWidth two) (ly : py < 4) where
+    -- colour A, or B, at the place: of 8 bits
+    abbrev pub colorAt : (second : Bool) → Pixel
+    colorAt second = pixel (toBytes (half two) (sumsTo (half two) words second px py 9))
+
+    color-bytes : (second : Bool) → Bytes (toBytes (half two) (sumsTo (half two) words second px py 9))
+    color-bytes second =
+        bytes two (sumsTo (half two) words second px py 9)
+        (sums-low (half two) words second px py lx ly 9 (omega arith) (λ k l. small-side second (k % 3) (k / 3)))
+
+    -- each channel of a texel lies between A's and B's, alpha where it is not punched through
+    pub texel-between : Between (colorAt false) (colorAt true) (texelIn (half two) words px py) (punched (half two) (words 1 1) px py)
+    unfolding texelIn mixed sumsTo nineSum
+    texel-between =
+        blend-between (colorAt false) (colorAt true) (filled (half two) (ruleAt (words 1 1) px py) words (px + blockWidth two) (py + 4)) (punched (half two) (words 1 1) px py)
+        (filled-le (ruleAt (words 1 1) px py) (px + blockWidth two) (py + 4))
+
+    pub texel-in-below : packed (texelIn (half two) words px py) < 2 ^ 32
+    unfolding texelIn mixed sumsTo nineSum
+    texel-in-below =
+        word-below (toBytes (half two) (sumsTo (half two) words false px py 9)) (toBytes (half two) (sumsTo (half two) words true px py 9))
+        (filled (half two) (ruleAt (words 1 1) px py) words (px + blockWidth two) (py + 4)) (punched (half two) (words 1 1) px py)
+        (filled-le (ruleAt (words 1 1) px py) (px + blockWidth two) (py + 4)) (color-bytes false) (color-bytes true)
+
+-- every texel of a grid of words is below 2 ^ 32
+pub texel-below : (two : Bool) (gx gy : ℕ) (of : ℕ → ℕ → List ℕ) (x y : ℕ) → packed (texelAt (half two) gx gy (words two of) x y) < 2 ^ 32
+unfolding texelAt
+texel-below two gx gy of x y =
+    texel-in-below two (λ i j. of (beside gx (x / blockWidth two) i) (beside gy (y / 4) j)) (x % blockWidth two) (y % 4)
+    (mod-lt x (omega (arith, half-low two))) (omega arith)
