@@ -1,4 +1,5 @@
 pub mod Bits
+pub mod Checks
 pub mod Finite
 pub mod Sum
 pub mod Tab

@@ -1,10 +1,11 @@
 -- Laws of the number of blocks along a side, over the size of a block. Assumes nothing.
 use mathlib.Core.Path.{_≡_, sym, ap}
+use mathlib.Core.Logic.{⊎-elim}
 use Prim.Native.Nat.{ℕ, _+_, _-_, _*_, _/_, _%_, _≤_, _<_}
-use native.Mathlib.Nat.{div-add-mod', div-le-self, div-mul-le-self, lt-div-mul-add, le-div-iff-mul-le, mul-le-mul-right, mul-le-mul-left, mod-lt}
+use native.Mathlib.Nat.{div-add-mod', div-lt-iff-lt-mul, div-mul-le-self, lt-div-mul-add, le-div-iff-mul-le, mul-le-mul-right, mul-le-mul-left, mod-lt}
 use native.Mathlib.Omega.{arith}
 use Rattle.grid.specs.Grid.{blocks}
-use Rattle.facts.proofs.Numbers.{split}
+use Rattle.facts.proofs.Numbers.{lt-or-le, split}
 
 module _ (size side : ℕ) (pos : 0 < size) where
   -- a side that the size divides
@@ -23,12 +24,23 @@ module _ (size side : ℕ) (pos : 0 < size) where
   pub blocks-pos : 0 < side → 0 < blocks size side
   blocks-pos h = le-div-iff-mul-le {x = 1} {y = side + (size - 1)} pos .1 (omega arith)
 
-  pub blocks-le : blocks size side ≤ side + (size - 1)
-  blocks-le = div-le-self (side + (size - 1)) size
-
   -- the blocks cover the side, and the last of them starts within it
   pub blocks-cover : side ≤ blocks size side * size
   blocks-cover = omega (arith, lt-div-mul-add {a = side + (size - 1)} pos)
 
   pub blocks-tight : blocks size side * size < side + size
   blocks-tight = omega (arith, div-mul-le-self (side + (size - 1)) size)
+
+  -- a side has no more blocks than texels
+  pub blocks-le : blocks size side ≤ side
+  blocks-le =
+      ⊎-elim
+      (λ more.
+      let many : side + 1 ≤ blocks size side = omega arith in
+      absurd (omega (arith, mul-le-mul-right size many, mul-le-mul-left side pos, blocks-tight)))
+      (λ few. few)
+      (lt-or-le side (blocks size side))
+
+  -- a texel of the side lies in one of its blocks
+  pub block-below : (x : ℕ) → x < side → x / size < blocks size side
+  block-below x h = div-lt-iff-lt-mul {k = size} {x = x} {y = blocks size side} pos .1 (omega (arith, blocks-cover))

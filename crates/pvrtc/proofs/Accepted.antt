@@ -1,0 +1,107 @@
+-- What is known of a picture that a call accepts. Assumes nothing.
+use mathlib.Core.Path.{_≡_, refl}
+use mathlib.Core.Bool.{Bool, true, false, not, _||_}
+use Prim.Native.Nat.{ℕ, _+_, _*_, _/_, _≤_, _<_}
+use native.Mathlib.Nat.{mul-le-mul}
+use native.Mathlib.Omega.{arith}
+use lib.Dec.{T, eqb, ltb, leb, ltb→lt}
+use lib.ListN.{length}
+use borrow.Author.Tests.{eqb-false, ltb-false, leb-false, not-false}
+use Rattle.facts.specs.Checks.{firstOf, at}
+use Rattle.facts.proofs.Checks.{none-holds}
+use Rattle.facts.proofs.Finite.{below}
+use Rattle.grid.specs.Grid.{blockWidth, isPower}
+use Rattle.grid.proofs.Counts.{blocks-le, block-below}
+use Rattle.grid.proofs.Powers.{is-power}
+use Rattle.texel.specs.Inner.{Grid}
+use Rattle.texel.proofs.Shares.{half-low}
+use Rattle.pvrtc.specs.declared.Call.{Call}
+use Rattle.pvrtc.specs.declared.Call.the-variants as call
+use Rattle.pvrtc.specs.declared.Picture.{Picture}
+use Rattle.pvrtc.specs.Refusals.{across, down, need, zeroSide, largeSide, shortData, shortImage, notPower, outside, checks}
+
+-- where neither of two tests holds, the first does not, and the second does not
+or-left : (a b : Bool) → (a || b) ≡ false → a ≡ false
+or-left true b e = e
+or-left false b e = refl
+
+or-right : (a b : Bool) → (a || b) ≡ false → b ≡ false
+or-right true b e = let z : true ≡ false = e in cc
+or-right false b e = e
+
+-- where the first of two tests holds it is the answer, else the second is
+pub or-taken : (a b : Bool) → a ≡ true → a ≡ (a || b)
+or-taken true b e = refl
+or-taken false b e = let z : false ≡ true = e in cc
+
+pub or-passed : (a b : Bool) → a ≡ false → b ≡ (a || b)
+or-passed true b e = let z : true ≡ false = e in cc
+or-passed false b e = refl
+
+-- no condition of a refusal holds
+pub record Accepted (p : Picture) (c : Call) (len : ℕ) : Type 0 where
+  pub sides : zeroSide p ≡ false
+  pub small : largeSide p ≡ false
+  pub enough : shortData p len ≡ false
+  pub roomy : shortImage p c ≡ false
+  pub powers : notPower p ≡ false
+  pub inside : outside p c ≡ false
+
+pub accepted : (p : Picture) (c : Call) (len : ℕ) → firstOf (checks p c len) ≡ 0 → Accepted p c len
+accepted p c len e =
+    let none : (k : ℕ) → at (checks p c len) k .holds ≡ false =
+    none-holds (checks p c len) (λ k h. ltb→lt 0 _ (below (λ k. ltb 0 (at (checks p c len) k .number)) 6 tt k h)) e in
+    record { sides = none 0; small = none 1; enough = none 2; roomy = none 3; powers = none 4; inside = none 5 }
+
+module _ (p : Picture) where
+  module _ (e : largeSide p ≡ false) where
+    pub width-small : p .width ≤ 65536
+    width-small = ltb-false 65536 (p .width) (or-left _ (ltb 65536 (p .height)) e)
+
+    pub height-small : p .height ≤ 65536
+    height-small = ltb-false 65536 (p .height) (or-right (ltb 65536 (p .width)) _ e)
+
+  module _ (e : zeroSide p ≡ false) where
+    pub width-above : 0 < p .width
+    width-above =
+        let n : p .width ≡ 0 → ⊥ = eqb-false (p .width) 0 (or-left _ (eqb (p .height) 0) e) in
+        omega arith
+
+    pub height-above : 0 < p .height
+    height-above =
+        let n : p .height ≡ 0 → ⊥ = eqb-false (p .height) 0 (or-right (eqb (p .width) 0) _ e) in
+        omega arith
+
+wide : (two : Bool) → 0 < blockWidth two
+wide two = omega (arith, half-low two)
+
+-- no side has more blocks than its texels
+pub few-across : (p : Picture) → largeSide p ≡ false → across p ≤ 65536
+few-across p e = omega (arith, blocks-le (blockWidth (p .is2bpp)) (p .width) (wide (p .is2bpp)), width-small p e)
+
+pub few-down : (p : Picture) → largeSide p ≡ false → down p ≤ 65536
+few-down p e = omega (arith, blocks-le 4 (p .height) (omega arith), height-small p e)
+
+module _ {p : Picture} {c : Call} {len : ℕ} (a : Accepted p c len) where
+  -- its grid has powers of two as its sides, and its words stand in the data
+  pub grid : Grid (across p) (down p) len
+  grid =
+      record {
+        power-across = is-power (across p) (not-false _ (or-left _ (not (isPower (down p))) (a .powers)));
+        power-down = is-power (down p) (not-false _ (or-right (not (isPower (across p))) _ (a .powers)));
+        across = few-across p (a .small);
+        down = few-down p (a .small);
+        enough = ltb-false len (need p) (a .enough);
+      }
+
+  -- a texel of the picture lies in a block of the grid
+  pub column-in : (x : ℕ) → x < p .width → x / blockWidth (p .is2bpp) < across p
+  column-in x h = block-below (blockWidth (p .is2bpp)) (p .width) (wide (p .is2bpp)) x h
+
+  pub row-in : (y : ℕ) → y < p .height → y / 4 < down p
+  row-in y h = block-below 4 (p .height) (omega arith) y h
+
+-- where the texel call is accepted, the texel lies in the picture
+pub texel-inside : (p : Picture) (x y : ℕ) → outside p (call.Texel x y) ≡ false → (x < p .width) × (y < p .height)
+unfolding outside
+texel-inside p x y e = (leb-false (p .width) x (or-left _ (leb (p .height) y) e), leb-false (p .height) y (or-right (leb (p .width) x) _ e))

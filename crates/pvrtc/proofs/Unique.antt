@@ -1,0 +1,77 @@
+-- No two answers meet the promise of a call. Assumes nothing.
+use mathlib.Core.Path.{_≡_, refl, sym, ap, _∙_}
+use mathlib.Core.Bool.{Bool, true, false, cond}
+use mathlib.Core.List.{List}
+use Prim.Native.Nat.{ℕ, zero, suc, _<_}
+use native.Mathlib.Omega.{arith}
+use lib.Dec.{eqb}
+use borrow.Author.Tests.{eq-eqb, ne-eqb}
+use Rattle.pvrtc.specs.declared.Decoded.{Decoded}
+use Rattle.pvrtc.specs.declared.Decoded.the-variants as decoded
+use Rattle.pvrtc.specs.declared.Picture.{Picture}
+use Rattle.pvrtc.specs.declared.Refusal.{Refusal}
+use Rattle.pvrtc.specs.declared.Refusal.the-variants.{ZeroSide, LargeSide, ShortData, ShortImage, NotPowerOfTwo, Outside}
+use Rattle.pvrtc.specs.declared.Texel.{Texel}
+use Rattle.pvrtc.specs.declared.Texel.the-variants as texel
+use Rattle.pvrtc.specs.declared.Call.the-variants as call
+use Rattle.pvrtc.specs.Calls.{refusal, pictureTexel, TexelRead}
+use Rattle.pvrtc.specs.Refusals.{numberOf, decodedNumber, texelNumber, texelValue}
+
+-- a refusal's number is not 0
+pub number-above : (f : Refusal) → 0 < numberOf f
+number-above ZeroSide = omega arith
+number-above LargeSide = omega arith
+number-above ShortData = omega arith
+number-above ShortImage = omega arith
+number-above NotPowerOfTwo = omega arith
+number-above Outside = omega arith
+
+-- and tells which it is
+ofNumber : ℕ → Refusal
+ofNumber zero = Outside
+ofNumber (suc zero) = ZeroSide
+ofNumber (suc (suc zero)) = LargeSide
+ofNumber (suc (suc (suc zero))) = ShortData
+ofNumber (suc (suc (suc (suc zero)))) = ShortImage
+ofNumber (suc (suc (suc (suc (suc zero))))) = NotPowerOfTwo
+ofNumber (suc (suc (suc (suc (suc (suc n)))))) = Outside
+
+back : (f : Refusal) → ofNumber (numberOf f) ≡ f
+unfolding ofNumber
+back ZeroSide = refl
+back LargeSide = refl
+back ShortData = refl
+back ShortImage = refl
+back NotPowerOfTwo = refl
+back Outside = refl
+
+pub same-refusal : (f g : Refusal) → numberOf f ≡ numberOf g → f ≡ g
+same-refusal f g e = sym (back f) ∙ ap ofNumber e ∙ back g
+
+-- answers with the same number are the same
+pub same-decoded : (r s : Decoded) → decodedNumber r ≡ decodedNumber s → r ≡ s
+same-decoded decoded.Done decoded.Done e = refl
+same-decoded decoded.Done (decoded.Refused g) e = absurd (omega (arith, number-above g))
+same-decoded (decoded.Refused f) decoded.Done e = absurd (omega (arith, number-above f))
+same-decoded (decoded.Refused f) (decoded.Refused g) e = ap decoded.Refused (same-refusal f g e)
+
+-- with the same number and the same word too
+pub same-texel : (r s : Texel) → texelNumber r ≡ texelNumber s → texelValue r ≡ texelValue s → r ≡ s
+same-texel (texel.Word v) (texel.Word w) e q = ap texel.Word q
+same-texel (texel.Word v) (texel.Refused g) e q = absurd (omega (arith, number-above g))
+same-texel (texel.Refused f) (texel.Word w) e q = absurd (omega (arith, number-above f))
+same-texel (texel.Refused f) (texel.Refused g) e q = ap texel.Refused (same-refusal f g e)
+
+-- the texel call
+pub one-texel : (p : Picture) (d : List ℕ) (x y : ℕ) (r s : Texel) → TexelRead p d x y r → TexelRead p d x y s → r ≡ s
+one-texel p d x y r s a b = same-texel r s (a .number ∙ sym (b .number)) (a .value ∙ sym (b .value))
+
+module _ (p : Picture) (d : List ℕ) (x y : ℕ) where
+  -- how its promise is met: by the texel, or by a refusal
+  pub by-word : {v : ℕ} → refusal p (call.Texel x y) d ≡ 0 → v ≡ pictureTexel p d x y → TexelRead p d x y (texel.Word v)
+  by-word {v} e q = record { number = sym e; value = rw e q }
+
+  pub by-refusal : {f : Refusal} → numberOf f ≡ refusal p (call.Texel x y) d → TexelRead p d x y (texel.Refused f)
+  by-refusal {f} e =
+      let n : eqb (refusal p (call.Texel x y) d) 0 ≡ false = ne-eqb (refusal p (call.Texel x y) d) 0 (omega (arith, number-above f)) in
+      record { number = e; value = rw n }

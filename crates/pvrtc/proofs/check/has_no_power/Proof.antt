@@ -1,0 +1,42 @@
+-- `pvrtc::check::has_no_power` meets its contract. Assumes nothing.
+use mathlib.Core.Bool.{not}
+use mathlib.Core.Path.{_≡_, sym, ap, _∙_}
+use borrow.Author.Needs.{needs}
+use Rattle.grid.specs.Grid.{isPower}
+use Rattle.pvrtc.proofs.Accepted.{or-taken, or-passed}
+use Rattle.pvrtc.proofs.check.has_no_power.Statement.{statement}
+use Rattle.pvrtc.proofs.check.has_no_power.Tie as tie
+
+num-blocks-x-requires : tie.Need-num-blocks-x-requires
+num-blocks-x-requires c κs = search needs
+
+num-blocks-y-requires : tie.Need-num-blocks-y-requires
+num-blocks-y-requires c κs = search needs
+
+is-power-of-two-requires : tie.Need-is-power-of-two-requires
+is-power-of-two-requires c κs = search needs
+
+is-power-of-two-requires-2 : tie.Need-is-power-of-two-requires-2
+is-power-of-two-requires-2 c κs = search needs
+
+returns : tie.Need-returns
+returns c =
+    let e = ap not (c .before .is-power-of-two .ensures ∙ ap isPower (c .before .before .before .num-blocks-x .ensures)) in
+    e ∙ or-taken _ _ (sym e ∙ c .if1 .taken)
+
+returns-2 : tie.Need-returns-2
+returns-2 c =
+    let e = ap not (c .before .before .is-power-of-two .ensures ∙ ap isPower (c .before .before .before .before .num-blocks-x .ensures)) in
+    let q = ap not (c .is-power-of-two2 .ensures ∙ ap isPower (c .before .before .before .num-blocks-y .ensures)) in
+    q ∙ or-passed _ _ (sym e ∙ c .before .if1 .left)
+
+pub has-no-power-spec : {M : Type 1} → statement M
+has-no-power-spec =
+    tie.close
+    (tie.spec
+    num-blocks-x-requires
+    num-blocks-y-requires
+    is-power-of-two-requires
+    is-power-of-two-requires-2
+    returns
+    returns-2)

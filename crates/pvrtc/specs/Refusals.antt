@@ -1,0 +1,89 @@
+-- What a call refuses, as document 01 says it ("What a call says"). Assumes nothing: these are definitions.
+use mathlib.Core.Bool.{Bool, true, false, not, _||_}
+use mathlib.Core.List.{List, [], _∷_}
+use Prim.Native.Nat.{ℕ, _*_}
+use lib.Dec.{eqb, ltb, leb}
+use Rattle.facts.specs.Checks.{Check, check}
+use Rattle.grid.specs.Grid.{blockWidth, blocks, isPower}
+use Rattle.pvrtc.specs.declared.Call.{Call}
+use Rattle.pvrtc.specs.declared.Call.the-variants as call
+use Rattle.pvrtc.specs.declared.Decoded.{Decoded}
+use Rattle.pvrtc.specs.declared.Decoded.the-variants as decoded
+use Rattle.pvrtc.specs.declared.Picture.{Picture}
+use Rattle.pvrtc.specs.declared.Refusal.{Refusal}
+use Rattle.pvrtc.specs.declared.Refusal.the-variants.{ZeroSide, LargeSide, ShortData, ShortImage, NotPowerOfTwo, Outside}
+use Rattle.pvrtc.specs.declared.Texel.{Texel}
+use Rattle.pvrtc.specs.declared.Texel.the-variants as texel
+
+-- The blocks across and down a picture.
+abbrev pub across : Picture → ℕ
+across p = blocks (blockWidth (p .is2bpp)) (p .width)
+
+abbrev pub down : Picture → ℕ
+down p = blocks 4 (p .height)
+
+-- The bytes that a picture needs: eight for each block.
+abbrev pub need : Picture → ℕ
+need p = 8 * (across p * down p)
+
+-- A side is 0.
+abbrev pub zeroSide : Picture → Bool
+zeroSide p = eqb (p .width) 0 || eqb (p .height) 0
+
+-- A side is above 65,536.
+abbrev pub largeSide : Picture → Bool
+largeSide p = ltb 65536 (p .width) || ltb 65536 (p .height)
+
+-- The data is shorter than the need.
+abbrev pub shortData : Picture → ℕ → Bool
+shortData p len = ltb len (need p)
+
+-- The image is shorter than width × height words, a row than width. A texel call lends no words.
+unfoldable pub shortImage : Picture → Call → Bool
+shortImage p (call.Texel x y) = false
+shortImage p (call.Row y room) = ltb room (p .width)
+shortImage p (call.Block room) = ltb room (p .width * p .height)
+
+-- Blocks across or blocks down is not a power of two.
+abbrev pub notPower : Picture → Bool
+notPower p = not (isPower (across p)) || not (isPower (down p))
+
+-- x is at or past the width, or y at or past the height. A row call asks for no x, a block call for neither.
+unfoldable pub outside : Picture → Call → Bool
+outside p (call.Texel x y) = leb (p .width) x || leb (p .height) y
+outside p (call.Row y room) = leb (p .height) y
+outside p (call.Block room) = false
+
+-- The refusals of a call on `len` bytes, in their order.
+abbrev pub checks : Picture → Call → ℕ → List Check
+checks p c len =
+    check (zeroSide p) 1
+    ∷ check (largeSide p) 2
+    ∷ check (shortData p len) 3
+    ∷ check (shortImage p c) 4
+    ∷ check (notPower p) 5
+    ∷ check (outside p c) 6
+    ∷ []
+
+-- Document 01's number of a refusal.
+abbrev pub numberOf : Refusal → ℕ
+numberOf ZeroSide = 1
+numberOf LargeSide = 2
+numberOf ShortData = 3
+numberOf ShortImage = 4
+numberOf NotPowerOfTwo = 5
+numberOf Outside = 6
+
+-- The number that a call's answer says: 0 for none.
+abbrev pub decodedNumber : Decoded → ℕ
+decodedNumber decoded.Done = 0
+decodedNumber (decoded.Refused f) = numberOf f
+
+abbrev pub texelNumber : Texel → ℕ
+texelNumber (texel.Word w) = 0
+texelNumber (texel.Refused f) = numberOf f
+
+-- The word that a texel call answers: 0 where it is refused.
+abbrev pub texelValue : Texel → ℕ
+texelValue (texel.Word w) = w
+texelValue (texel.Refused f) = 0
