@@ -44,3 +44,9 @@ module _ (size side : ℕ) (pos : 0 < size) where
   -- a texel of the side lies in one of its blocks
   pub block-below : (x : ℕ) → x < side → x / size < blocks size side
   block-below x h = div-lt-iff-lt-mul {k = size} {x = x} {y = blocks size side} pos .1 (omega (arith, blocks-cover))
+
+  -- a block of the side starts within it
+  pub block-start : (b : ℕ) → b < blocks size side → b * size < side
+  block-start b h =
+      let next : b + 1 ≤ blocks size side = omega arith in
+      omega (arith, mul-le-mul-right size next, blocks-tight)

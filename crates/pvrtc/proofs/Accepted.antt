@@ -1,12 +1,12 @@
 -- What is known of a picture that a call accepts. Assumes nothing.
-use mathlib.Core.Path.{_≡_, refl}
+use mathlib.Core.Path.{_≡_, refl, sym}
 use mathlib.Core.Bool.{Bool, true, false, not, _||_}
 use Prim.Native.Nat.{ℕ, _+_, _*_, _/_, _≤_, _<_}
 use native.Mathlib.Nat.{mul-le-mul}
 use native.Mathlib.Omega.{arith}
 use lib.Dec.{T, eqb, ltb, leb, ltb→lt}
 use lib.ListN.{length}
-use borrow.Author.Tests.{eqb-false, ltb-false, leb-false, not-false}
+use borrow.Author.Tests.{eqb-false, ltb-false, leb-false, lt-leb, not-false}
 use Rattle.facts.specs.Checks.{firstOf, at}
 use Rattle.facts.proofs.Checks.{none-holds}
 use Rattle.facts.proofs.Finite.{below}
@@ -18,6 +18,7 @@ use Rattle.texel.proofs.Shares.{half-low}
 use Rattle.pvrtc.specs.declared.Call.{Call}
 use Rattle.pvrtc.specs.declared.Call.the-variants as call
 use Rattle.pvrtc.specs.declared.Picture.{Picture}
+use Rattle.pvrtc.proofs.Order.{says-none}
 use Rattle.pvrtc.specs.Refusals.{across, down, need, zeroSide, largeSide, shortData, shortImage, notPower, outside, checks}
 
 -- where neither of two tests holds, the first does not, and the second does not
@@ -72,7 +73,7 @@ module _ (p : Picture) where
         let n : p .height ≡ 0 → ⊥ = eqb-false (p .height) 0 (or-right (eqb (p .width) 0) _ e) in
         omega arith
 
-wide : (two : Bool) → 0 < blockWidth two
+pub wide : (two : Bool) → 0 < blockWidth two
 wide two = omega (arith, half-low two)
 
 -- no side has more blocks than its texels
@@ -105,3 +106,23 @@ module _ {p : Picture} {c : Call} {len : ℕ} (a : Accepted p c len) where
 pub texel-inside : (p : Picture) (x y : ℕ) → outside p (call.Texel x y) ≡ false → (x < p .width) × (y < p .height)
 unfolding outside
 texel-inside p x y e = (leb-false (p .width) x (or-left _ (leb (p .height) y) e), leb-false (p .height) y (or-right (leb (p .width) x) _ e))
+
+-- where the row call is accepted, the row lies in the picture and the lent words hold it
+pub row-inside : (p : Picture) (y room : ℕ) → outside p (call.Row y room) ≡ false → y < p .height
+unfolding outside
+row-inside p y room e = leb-false (p .height) y e
+
+pub row-roomy : (p : Picture) (y room : ℕ) → shortImage p (call.Row y room) ≡ false → p .width ≤ room
+unfolding shortImage
+row-roomy p y room e = ltb-false room (p .width) e
+
+-- where the block call is, the lent words hold the picture
+pub block-roomy : (p : Picture) (room : ℕ) → shortImage p (call.Block room) ≡ false → p .width * p .height ≤ room
+unfolding shortImage
+block-roomy p room e = ltb-false room (p .width * p .height) e
+
+-- so each texel of an accepted row is accepted
+pub texel-of-row : (p : Picture) (x y room len : ℕ) → Accepted p (call.Row y room) len → x < p .width → firstOf (checks p (call.Texel x y) len) ≡ 0
+unfolding shortImage outside
+texel-of-row p x y room len a h =
+    sym (says-none _ _ _ _ _ _ (a .sides) (a .small) (a .enough) refl (a .powers) (simp (lt-leb (p .width) x h, lt-leb (p .height) y (row-inside p y room (a .inside)))))

@@ -1,3 +1,5 @@
 pub mod Accepted
+pub mod InBlock
+pub mod InRow
 pub mod Order
 pub mod Unique

@@ -14,7 +14,7 @@ use Rattle.pvrtc.specs.declared.Refusal.the-variants.{ZeroSide, LargeSid
 use Rattle.pvrtc.specs.declared.Texel.{Texel}
 use Rattle.pvrtc.specs.declared.Texel.the-variants as texel
 use Rattle.pvrtc.specs.declared.Call.the-variants as call
-use Rattle.pvrtc.specs.Calls.{refusal, pictureTexel, TexelRead}
+use Rattle.pvrtc.specs.Calls.{refusal, pictureTexel, TexelRead, Written}
 use Rattle.pvrtc.specs.Refusals.{numberOf, decodedNumber, texelNumber, texelValue}
 
 -- a refusal's number is not 0
@@ -75,3 +75,17 @@ module _ (p : Picture) (d : List ℕ) (x y : ℕ) where
   by-refusal {f} e =
       let n : eqb (refusal p (call.Texel x y) d) 0 ≡ false = ne-eqb (refusal p (call.Texel x y) d) 0 (omega (arith, number-above f)) in
       record { number = e; value = rw n }
+
+-- the calls that write: one answer, and one list of words
+pub one-written : {n : ℕ} {done old new new' : List ℕ} {r s : Decoded} → Written n done old new r → Written n done old new' s → (r ≡ s) × (new ≡ new')
+one-written {n} {done} {old} {new} {new'} {r} {s} a b = (same-decoded r s (a .number ∙ sym (b .number)), a .words ∙ sym (b .words))
+
+-- how their promise is met: by the words, or by a refusal, which writes nothing
+pub by-words : {n : ℕ} {done old new : List ℕ} → n ≡ 0 → new ≡ done → Written n done old new decoded.Done
+by-words {n} e q = record { number = sym e; words = rw e q }
+
+pub by-none : {n : ℕ} {done old : List ℕ} {r : Decoded} {f : Refusal} → decodedNumber r ≡ n → r ≡ decoded.Refused f → Written n done old old r
+by-none {n} {done} {old} {r} {f} e q =
+    let above : 0 < n = rw (sym e ∙ ap decodedNumber q) (number-above f) in
+    let other : eqb n 0 ≡ false = ne-eqb n 0 (omega arith) in
+    record { number = e; words = rw other }

@@ -1,7 +1,13 @@
-// The calls: what each refuses, and the texel call.
+// The calls: a texel, a row, all blocks of a picture.
+mod block;
 mod check;
+mod row;
 
+pub use block::decode_pvrtc;
+pub use block::decode_pvrtc_2bpp;
+pub use block::decode_pvrtc_4bpp;
 pub use check::refusal_number;
+pub use row::decode_row;
 ghost use mathlib.Core.Path.{_≡_};
 ghost use Rattle.pvrtc.specs.Calls.{picture, TexelRead};
 use check::check;

@@ -1,0 +1,52 @@
+-- Demand 3 holds of every grid that covers a picture. Assumes nothing.
+use mathlib.Core.Path.{sym}
+use mathlib.Core.Bool.{Bool}
+use mathlib.Core.List.{List·Memᴰ, Memᴰ·cast}
+use mathlib.Core.Logic.{⊎-elim}
+use Prim.Native.Nat.{ℕ, _*_, _<_}
+use native.Mathlib.Omega.{arith}
+use Rattle.grid.specs.Grid.{blockWidth, blocks, Power}
+use Rattle.grid.proofs.Counts.{blocks-cover}
+use Rattle.texel.proofs.Shares.{half-low}
+use Rattle.demands.specs.Footprint.{footprint}
+use Rattle.demands.specs.Local.{Covers, Local}
+use Rattle.demands.proofs.Damage.{damaged-size, damaged-listed, damaged-all, damaged-once}
+use Rattle.demands.proofs.Lists.{in-or-not}
+use Rattle.demands.proofs.Member.{of-footprint, footprint-some, footprint-few, footprint-rising, footprint-within, footprint-enough}
+use Rattle.demands.proofs.Told.{told}
+
+-- the grid of a picture, its sides divided and rounded up, covers it
+pub covers : (two : Bool) (w h : ℕ) → Power (blocks (blockWidth two) w) → Power (blocks 4 h) → Covers two (blocks (blockWidth two) w) (blocks 4 h) w h
+covers two w h px py =
+    record {
+      power-across = px;
+      power-down = py;
+      across = blocks-cover (blockWidth two) w (omega (arith, half-low two));
+      down = blocks-cover 4 h (omega arith);
+    }
+
+pub local : (two : Bool) (gx gy w h : ℕ) → Covers two gx gy w h → Local two gx gy w h
+local two gx gy w h c =
+    let px : Power gx = c .power-across in
+    let py : Power gy = c .power-down in
+    let within : (x y z : ℕ) → List·Memᴰ z (footprint two gx gy x y) → z < gx * gy = λ x y. footprint-within two gx gy x y px py in
+    let listed = damaged-listed two gx gy px py in
+    record {
+      some = footprint-some two gx gy;
+      few = footprint-few two gx gy;
+      rising = footprint-rising two gx gy;
+      within = within;
+      enough = footprint-enough two gx gy;
+      needed = λ x y z m. told two gx gy x y (gx * gy) z (within x y z m) (of-footprint two gx gy x y z m);
+      size = damaged-size two gx gy;
+      only = λ z d d' same x y lx ly differ.
+          ⊎-elim
+          (λ m. listed x y z (omega arith) (omega arith) m)
+          (λ n. absurd (differ (footprint-enough two gx gy x y d d' (λ b m. same b (within x y b m) (λ e. n (Memᴰ·cast (sym e) m))))))
+          (in-or-not z (footprint two gx gy x y));
+      listed = λ x y z lx ly m. listed x y z (omega arith) (omega arith) m;
+      once = λ whole. damaged-once two gx gy px py (whole .two-across) (whole .two-down);
+      all = λ whole z lz p m.
+          let a = damaged-all two gx gy px py z lz p m in
+          (omega arith, omega arith, a .2);
+    }

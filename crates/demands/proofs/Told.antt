@@ -1,0 +1,129 @@
+-- No footprint is too large: two runs tell each block of it. All their bytes are 0, but for the eight of that block in one run, which
+-- are 15: both its colours have red 31, so red shows in the texel, whatever the weight. Assumes nothing.
+use mathlib.Core.Path.{_≡_, refl, sym, ap, _∙_}
+use mathlib.Core.Bool.{Bool, true, false, cond}
+use mathlib.Core.List.{List, []}
+use mathlib.Core.Logic.{⊎-elim}
+use Prim.Native.Nat.{ℕ, _+_, _*_, _/_, _%_, _≤_, _<_}
+use native.Mathlib.Nat.{mod-lt, mul-pos, le-div-iff-mul-le}
+use native.Mathlib.Omega.{arith}
+use lib.Dec.{eqb, eqb→eq}
+use lib.ListN.{getD, drop, List·getD-eq-default}
+use lib.Seq.{getD-drop}
+use borrow.Author.Tests.{eq-eqb, ne-eqb}
+use Rattle.facts.specs.Bits.{flags}
+use Rattle.facts.specs.Sum.{sum}
+use Rattle.facts.specs.Tab.{tab}
+use Rattle.facts.proofs.Finite.{below₂}
+use Rattle.facts.proofs.Numbers.{lt-or-le}
+use Rattle.facts.proofs.Sum.{term-le}
+use Rattle.facts.proofs.Tab.{length-tab, getD-tab}
+use Rattle.grid.specs.Grid.{half, blockWidth, blockAddress, beside}
+use Rattle.word.specs.Word.{weight4, punch4, weight2, fill2, wordOf}
+use Rattle.word.specs.declared.PVRTCTexelColor.{PVRTCTexelColor}
+use Rattle.word.proofs.Bounds.{color-a, color-b}
+use Rattle.word.proofs.Same.{word-same}
+use Rattle.texel.specs.Inner.{side, sumsTo}
+use Rattle.texel.specs.Texel.{share, factor, nineSum, scaleColor, scaleAlpha, blended, packed, near, filled, mixed, texelIn, texelAt, wordsOf, texelWord}
+use Rattle.texel.proofs.Range.{words, texel-between}
+use Rattle.texel.proofs.Same.{HasShare, look-same}
+use Rattle.texel.proofs.Shares.{half-low, half-high}
+use Rattle.demands.specs.Footprint.{Told}
+use Rattle.demands.proofs.Lists.{choice}
+use Rattle.demands.proofs.Member.{Drawn}
+
+-- byte k where block z has v in each byte, and every other byte is 0; and the run of these
+abbrev byte : ℕ → ℕ → ℕ → ℕ
+byte v z k = cond (eqb (k / 8) z) v 0
+
+abbrev run : ℕ → ℕ → ℕ → List ℕ
+run v n z = tab (byte v z) (8 * n)
+
+module _ (v n z : ℕ) (lz : z < n) where
+  run-at : (k : ℕ) → getD (run v n z) k 0 ≡ byte v z k
+  run-at k =
+      ⊎-elim
+      (getD-tab (byte v z) (8 * n) k 0)
+      (λ l. List·getD-eq-default (run v n z) 0 (omega (arith, length-tab (byte v z) (8 * n))) ∙ rw (ne-eqb (k / 8) z (omega arith)))
+      (lt-or-le k (8 * n))
+
+  run-low : v < 256 → (k : ℕ) → getD (run v n z) k 0 < 256
+  run-low l k = rw (run-at k) (choice (λ b. b < 256) (eqb (k / 8) z) {a = v} {b = 0} (λ _. l) (λ _. omega arith))
+
+  run-own : (k : ℕ) → k < 8 → getD (run v n z) (8 * z + k) 0 ≡ v
+  run-own k l = run-at (8 * z + k) ∙ rw (eq-eqb ((8 * z + k) / 8) z (omega arith))
+
+  run-other : (b k : ℕ) → (b ≡ z → ⊥) → k < 8 → getD (run v n z) (8 * b + k) 0 ≡ 0
+  run-other b k o l = run-at (8 * b + k) ∙ rw (ne-eqb ((8 * b + k) / 8) z (λ e. o (omega arith)))
+
+-- a texel whose words are all of bytes 0 is 0
+black : (two : Bool) (px py : ℕ) → px < blockWidth two → py < 4 → packed (texelIn (half two) (λ i j. wordOf two []) px py) ≡ 0
+unfolding sum tab flags weight4 punch4 weight2 fill2 wordOf share nineSum scaleColor scaleAlpha blended near filled mixed texelIn
+black true px py lx ly = eqb→eq _ 0 (below₂ (λ px py. eqb (packed (texelIn 4 (λ i j. wordOf true []) px py)) 0) 8 4 tt px py lx ly)
+black false px py lx ly = eqb→eq _ 0 (below₂ (λ px py. eqb (packed (texelIn 2 (λ i j. wordOf false []) px py)) 0) 4 4 tt px py lx ly)
+
+-- so is every texel of a run of bytes 0
+dark : (two : Bool) (gx gy n z x y : ℕ) → z < n → texelWord two gx gy (run 0 n z) x y ≡ 0
+unfolding texelAt
+dark two gx gy n z x y lz =
+    ap packed (look-same (half two) gx gy x y (half-low two) (wordsOf two gx gy (run 0 n z)) (λ i j. wordOf two []) (λ i j _ _. word i j))
+    ∙ black two (x % blockWidth two) (y % 4) (mod-lt x (omega (arith, half-low two))) (omega arith)
+  where
+    zero-byte : (k : ℕ) → getD (run 0 n z) k 0 ≡ 0
+    zero-byte k = run-at 0 n z lz k ∙ choice (λ b. b ≡ 0) (eqb (k / 8) z) (λ _. refl) (λ _. refl)
+
+    word : (i j : ℕ) → wordOf two (drop (8 * blockAddress gx gy (beside gx (x / blockWidth two) i) (beside gy (y / 4) j)) (run 0 n z)) ≡ wordOf two []
+    word i j =
+        word-same two _ [] (λ k l.
+        let at : ℕ = 8 * blockAddress gx gy (beside gx (x / blockWidth two) i) (beside gy (y / 4) j) in
+        getD-drop at (run 0 n z) k 0 ∙ zero-byte (at + k))
+
+-- bytes 15 make both colours red
+red-of : (two second : Bool) (d : List ℕ) → ((k : ℕ) → k < 8 → getD d k 0 ≡ 15) → side second (wordOf two d) .r ≡ 31
+red-of two true d b = ap (λ (c : PVRTCTexelColor). c .r) (color-b two d) ∙ rw (b 6 (omega arith), b 7 (omega arith))
+red-of two false d b = ap (λ (c : PVRTCTexelColor). c .r) (color-a two d) ∙ rw (b 4 (omega arith), b 5 (omega arith))
+
+-- one such block that has a share makes the texel red, whatever the other eight are
+module _ (two : Bool) (of : ℕ → ℕ → List ℕ) (px py i j : ℕ) (lx : px < blockWidth two) (ly : py < 4)
+    (across : HasShare (half two) px i) (down : HasShare 2 py j) (b : (k : ℕ) → k < 8 → getD (of i j) k 0 ≡ 15) where
+  sum-above : (second : Bool) → 31 ≤ sumsTo (half two) (words two of) second px py 9 .r
+  unfolding sumsTo
+  sum-above second =
+      let k : ℕ = 3 * j + i in
+      let ei : k % 3 ≡ i = omega arith in
+      let ej : k / 3 ≡ j = omega arith in
+      let f : ℕ → ℕ = λ k. side second (words two of (k % 3) (k / 3)) .r * factor (half two) px py k in
+      let term : f k ≡ 31 * (share (half two) px i * share 2 py j) = rw (ei, ej, red-of two second (of i j) b) in
+      omega (arith, term-le f 9 k (omega arith), mul-pos (across .1) (down .1))
+
+  scaled-above : (second : Bool) → 0 < scaleColor (half two) (sumsTo (half two) (words two of) second px py 9 .r)
+  unfolding scaleColor
+  scaled-above second =
+      let s : ℕ = sumsTo (half two) (words two of) second px py 9 .r in
+      omega (arith, le-div-iff-mul-le {k = half two} {x = 1} {y = s} (omega (arith, half-low two)) .1 (omega (arith, half-high two, sum-above second)))
+
+  bright : 0 < packed (texelIn (half two) (words two of) px py)
+  bright = omega (arith, texel-between two of px py lx ly .r .0, scaled-above false, scaled-above true)
+
+-- two runs tell a block that a texel draws on
+pub told : (two : Bool) (gx gy x y n z : ℕ) → z < n → Drawn two gx gy x y z → Told n z (λ d. texelWord two gx gy d x y)
+unfolding texelAt
+told two gx gy x y n z lz d =
+    record {
+      one = run 15 n z;
+      other = run 0 n z;
+      one-length = length-tab (byte 15 z) (8 * n);
+      other-length = length-tab (byte 0 z) (8 * n);
+      one-bytes = run-low 15 n z lz (omega arith);
+      other-bytes = run-low 0 n z lz (omega arith);
+      alone = λ b _ o k l. run-other 15 n z lz b k o l ∙ sym (run-other 0 n z lz b k o l);
+      differ = λ e. omega (arith, lit, dark two gx gy n z x y lz);
+    }
+  where
+    of : ℕ → ℕ → List ℕ
+    of i j = drop (8 * blockAddress gx gy (beside gx (x / blockWidth two) i) (beside gy (y / 4) j)) (run 15 n z)
+
+    lit : 0 < texelWord two gx gy (run 15 n z) x y
+    lit =
+        bright two of (x % blockWidth two) (y % 4) (d .i) (d .j) (mod-lt x (omega (arith, half-low two))) (omega arith) (d .across) (d .down)
+        (λ k l. rw (← d .is, getD-drop) (run-own 15 n z lz k l))

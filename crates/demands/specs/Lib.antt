@@ -1,0 +1,4 @@
+pub mod Damage
+pub mod Footprint
+pub mod Local
+pub mod Numbers

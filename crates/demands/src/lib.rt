@@ -1,0 +1,1 @@
+// The three demands as theorems: see specs/ and proofs/. Nothing here runs.
