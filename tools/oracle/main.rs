@@ -12,14 +12,16 @@ mod pvrtc {
     include!(concat!(env!("ORIGINAL"), "/pvrtc.rs"));
 
     pub mod leaves;
+    pub mod texels;
 }
 
 fn main() {
     let name = std::env::args().nth(1).unwrap_or_default();
     match name.as_str() {
         "leaves" => pvrtc::leaves::print(),
+        "texels" => pvrtc::texels::print(),
         _ => {
-            eprintln!("oracle: no listing is called '{name}'; there is: leaves");
+            eprintln!("oracle: no listing is called '{name}'; there are: leaves, texels");
             std::process::exit(2);
         }
     }

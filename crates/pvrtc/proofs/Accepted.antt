@@ -121,8 +121,15 @@ pub block-roomy : (p : Picture) (room : ℕ) → shortImage p (call.Block room) 
 unfolding shortImage
 block-roomy p room e = ltb-false room (p .width * p .height) e
 
--- so each texel of an accepted row is accepted
-pub texel-of-row : (p : Picture) (x y room len : ℕ) → Accepted p (call.Row y room) len → x < p .width → firstOf (checks p (call.Texel x y) len) ≡ 0
+-- a texel of the picture is accepted where any call on it is
+inside-accepted : (p : Picture) (c : Call) (x y len : ℕ) → Accepted p c len → x < p .width → y < p .height → firstOf (checks p (call.Texel x y) len) ≡ 0
 unfolding shortImage outside
-texel-of-row p x y room len a h =
-    sym (says-none _ _ _ _ _ _ (a .sides) (a .small) (a .enough) refl (a .powers) (simp (lt-leb (p .width) x h, lt-leb (p .height) y (row-inside p y room (a .inside)))))
+inside-accepted p c x y len a hx hy =
+    sym (says-none _ _ _ _ _ _ (a .sides) (a .small) (a .enough) refl (a .powers) (simp (lt-leb (p .width) x hx, lt-leb (p .height) y hy)))
+
+-- so each texel of an accepted row is, and each of an accepted picture
+pub texel-of-row : (p : Picture) (x y room len : ℕ) → Accepted p (call.Row y room) len → x < p .width → firstOf (checks p (call.Texel x y) len) ≡ 0
+texel-of-row p x y room len a hx = inside-accepted p (call.Row y room) x y len a hx (row-inside p y room (a .inside))
+
+pub texel-of-block : (p : Picture) (x y room len : ℕ) → Accepted p (call.Block room) len → x < p .width → y < p .height → firstOf (checks p (call.Texel x y) len) ≡ 0
+texel-of-block p x y room len a hx hy = inside-accepted p (call.Block room) x y len a hx hy

@@ -26,10 +26,10 @@ use Rattle.pvrtc.specs.Refusals.{across, down}
 use Rattle.pvrtc.proofs.Accepted.{wide, accepted, grid, width-small, height-small, block-roomy}
 
 -- word (i, j) of the buffer is that texel of the middle block
-in-buffer : (two : Bool) (nine : List PVRTCTexelInfo) (old : List ℕ) (i j : ℕ) → i < blockWidth two → j < 4
-    → getD (blockWords two nine old) (j * blockWidth two + i) 0 ≡ packed (texelIn (half two) (nineOf nine) i j)
+in-buffer : (two : Bool) (nine : List PVRTCTexelInfo) (i j : ℕ) → i < blockWidth two → j < 4
+    → getD (blockWords two nine) (j * blockWidth two + i) 0 ≡ packed (texelIn (half two) (nineOf nine) i j)
 unfolding blockWords
-in-buffer two nine old i j hi hj =
+in-buffer two nine i j hi hj =
     let row : j + 1 ≤ 4 = omega arith in
     let cut = split (blockWidth two) (j * blockWidth two + i) j i refl hi in
     tab-front _ (4 * blockWidth two) (j * blockWidth two + i) _ 0 (omega (arith, mul-le-mul-right (blockWidth two) row))
@@ -58,18 +58,18 @@ fits {p} {nx} {ny} {len} {room} {bx} {by} {bw} r hx hy e =
     }
 
 -- the buffer laid into the image is the block laid into it
-pub laid : (p : Picture) (d : List ℕ) (bx by : ℕ) (old zeros : List ℕ) {nx ny bw : ℕ} {nine : List PVRTCTexelInfo} {buffer new : List ℕ}
-    → nx ≡ across p → ny ≡ down p → bw ≡ blockWidth (p .is2bpp) → nine ≡ nineAbout (p .is2bpp) nx ny d bx by → buffer ≡ blockWords (p .is2bpp) nine zeros
+pub laid : (p : Picture) (d : List ℕ) (bx by : ℕ) (old : List ℕ) {nx ny bw : ℕ} {nine : List PVRTCTexelInfo} {buffer new : List ℕ}
+    → nx ≡ across p → ny ≡ down p → bw ≡ blockWidth (p .is2bpp) → nine ≡ nineAbout (p .is2bpp) nx ny d bx by → buffer ≡ blockWords (p .is2bpp) nine
     → new ≡ painted (by * 4 * p .width + bx * bw) (p .width) (min bw (p .width - bx * bw)) (min 4 (p .height - by * 4)) (λ x y. getD buffer (y * bw + x) 0) old
     → new ≡ withBlock p d bx by old
-laid p d bx by old zeros {nx} {ny} {bw} {nine} {buffer} ex ey ew en eb e =
+laid p d bx by old {nx} {ny} {bw} {nine} {buffer} ex ey ew en eb e =
     e
     ∙ ap (λ (n : ℕ). painted (by * 4 * p .width + bx * n) (p .width) (min n (p .width - bx * n)) (min 4 (p .height - by * 4)) (λ x y. getD buffer (y * n + x) 0) old) ew
     ∙ painted-same _ (p .width) _ _ _ _ old (omega arith) (λ x y hx hy. same x y (omega arith) (omega arith))
   where
     same : (x y : ℕ) → x < blockWidth (p .is2bpp) → y < 4 → getD buffer (y * blockWidth (p .is2bpp) + x) 0 ≡ pictureTexel p d (bx * blockWidth (p .is2bpp) + x) (by * 4 + y)
     same x y hx hy =
-        rw (eb, en) (in-buffer (p .is2bpp) (nineAbout (p .is2bpp) nx ny d bx by) zeros x y hx hy ∙ of-run (p .is2bpp) nx ny d bx by x y hx hy
+        rw (eb, en) (in-buffer (p .is2bpp) (nineAbout (p .is2bpp) nx ny d bx by) x y hx hy ∙ of-run (p .is2bpp) nx ny d bx by x y hx hy
         ∙ ap₂ (λ (m n : ℕ). texelWord (p .is2bpp) m n d (bx * blockWidth (p .is2bpp) + x) (by * 4 + y)) ex ey)
 
 -- a word of the picture is one of the lent words

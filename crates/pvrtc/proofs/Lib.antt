@@ -1,5 +1,7 @@
 pub mod Accepted
+pub mod Agree
 pub mod InBlock
 pub mod InRow
 pub mod Order
+pub mod Past
 pub mod Unique

@@ -3,7 +3,7 @@ use mathlib.Core.Path.{_≡_}
 use mathlib.Core.Bool.{Bool}
 use mathlib.Core.List.{List, _++_}
 use Prim.Native.Nat.{ℕ, _+_, _-_, _*_, _/_, _%_, _≤_, _<_, min}
-use lib.ListN.{drop}
+use lib.ListN.{drop, replicate}
 use Rattle.facts.specs.Tab.{tab}
 use Rattle.grid.specs.Grid.{half, blockWidth}
 use Rattle.paint.specs.Paint.{painted}
@@ -14,10 +14,10 @@ use Rattle.pvrtc.specs.declared.Picture.{Picture}
 use Rattle.pvrtc.specs.Calls.{pictureTexel}
 use Rattle.pvrtc.specs.Refusals.{across, down}
 
--- The texels of the middle block of nine in row order at the front of a buffer, the rest of it as it was.
-unfoldable pub blockWords : Bool → List PVRTCTexelInfo → List ℕ → List ℕ
-blockWords two nine old =
-    tab (λ i. packed (texelIn (half two) (nineOf nine) (i % blockWidth two) (i / blockWidth two))) (4 * blockWidth two) ++ drop (4 * blockWidth two) old
+-- A buffer of 32 words: the texels of the middle block of nine in row order, and zeros.
+unfoldable pub blockWords : Bool → List PVRTCTexelInfo → List ℕ
+blockWords two nine =
+    tab (λ i. packed (texelIn (half two) (nineOf nine) (i % blockWidth two) (i / blockWidth two))) (4 * blockWidth two) ++ drop (4 * blockWidth two) (replicate 32 0)
 
 -- A picture that was accepted, with its blocks across and down.
 pub record Ready (p : Picture) (nx ny len room : ℕ) : Type 0 where

@@ -13,34 +13,38 @@ ghost use Rattle.pvrtc.specs.Inner.{blockWords, Ready, withBlock, withBl
 use word::PVRTCTexelInfo;
 
 // The sixteen texels of the middle block of nine words, at 4bpp.
-fn applicate_color_4bpp(nine: [PVRTCTexelInfo; 9], buffer: &mut [u32; 32])
+fn applicate_color_4bpp(nine: [PVRTCTexelInfo; 9]) -> [u32; 32]
     requires { ⌜ Read false nine ⌝ }
-    ensures { λ _. ⌜ now (buffer .exit) ≡ blockWords false nine (now (buffer .entry)) ⌝ }
+    ensures { λ r. ⌜ r ≡ blockWords false nine ⌝ }
 {
+    let mut buffer = [0u32; 32];
     for i in 0..16 {
         buffer[i] = texel::texel_in(nine, false, i % 4, i / 4);
     }
+    buffer
 }
 
 // The 32 texels of the middle block of nine words, at 2bpp.
-fn applicate_color_2bpp(nine: [PVRTCTexelInfo; 9], buffer: &mut [u32; 32])
+fn applicate_color_2bpp(nine: [PVRTCTexelInfo; 9]) -> [u32; 32]
     requires { ⌜ Read true nine ⌝ }
-    ensures { λ _. ⌜ now (buffer .exit) ≡ blockWords true nine (now (buffer .entry)) ⌝ }
+    ensures { λ r. ⌜ r ≡ blockWords true nine ⌝ }
 {
+    let mut buffer = [0u32; 32];
     for i in 0..32 {
         buffer[i] = texel::texel_in(nine, true, i % 8, i / 8);
     }
+    buffer
 }
 
-fn applicate_color(nine: [PVRTCTexelInfo; 9], is2bpp: bool, buffer: &mut [u32; 32])
+fn applicate_color(nine: [PVRTCTexelInfo; 9], is2bpp: bool) -> [u32; 32]
     requires { ⌜ Read is2bpp nine ⌝ }
-    ensures { λ _. ⌜ now (buffer .exit) ≡ blockWords is2bpp nine (now (buffer .entry)) ⌝ }
+    ensures { λ r. ⌜ r ≡ blockWords is2bpp nine ⌝ }
 {
     if is2bpp {
-        applicate_color_2bpp(nine, buffer);
-        return;
+        applicate_color_2bpp(nine)
+    } else {
+        applicate_color_4bpp(nine)
     }
-    applicate_color_4bpp(nine, buffer);
 }
 
 // Block (bx, by) of a picture of nx by ny blocks, laid into the image.
@@ -58,8 +62,7 @@ fn decode_block(
 {
     let is2bpp = p.is2bpp;
     let nine = texel::nine_words(data, nx, ny, is2bpp, bx, by, false);
-    let mut buffer = [0u32; 32];
-    applicate_color(nine, is2bpp, &mut buffer);
+    let buffer = applicate_color(nine, is2bpp);
     let width = grid::block_width(is2bpp);
     paint::copy_block_buffer(bx, by, p.width, p.height, width, 4, &buffer, image);
 }

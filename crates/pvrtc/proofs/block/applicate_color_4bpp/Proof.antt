@@ -3,7 +3,8 @@ use mathlib.Core.List.{_++_}
 use mathlib.Core.Path.{_≡_, _∙_, ap}
 use Prim.Native.Nat.{ℕ, _-_, _≤_, _/_, _%_}
 use native.Mathlib.Omega.{arith}
-use lib.ListN.{length, drop}
+use lib.ListN.{drop, replicate}
+use borrow.Author.Needs.{needs}
 use Rattle.facts.proofs.Tab.{Filled, filled-none, filled-more}
 use Rattle.facts.specs.Tab.{tab}
 use Rattle.pvrtc.specs.Inner.{blockWords}
@@ -27,8 +28,8 @@ texel-in-requires c κs = (record { across = omega arith; down = omega arith }, 
 mul-buffer : tie.Need-mul-buffer Inv-loop μ-loop
 mul-buffer c = omega arith
 
-element-write-buffer : tie.Need-element-write-buffer Inv-loop μ-loop
-element-write-buffer c = omega arith
+array-write-buffer : tie.Need-array-write-buffer Inv-loop μ-loop
+array-write-buffer c = search needs
 
 add-i : tie.Need-add-i Inv-loop μ-loop
 add-i c = omega arith
@@ -45,9 +46,9 @@ returns : tie.Need-returns Inv-loop μ-loop
 unfolding blockWords
 returns c =
     let l = c .before .loop in
-    let a = c .before .before .args in
+    let nine = c .before .before .args .nine in
     let all : l .i ≡ 16 = omega arith in
-    l .inv .1 .is ∙ ap (λ (n : ℕ). tab (λ i. packed (texelIn 2 (nineOf (a .nine)) (i % 4) (i / 4))) n ++ drop n (a .buffer .now)) all
+    l .inv .1 .is ∙ ap (λ (n : ℕ). tab (λ i. packed (texelIn 2 (nineOf nine) (i % 4) (i / 4))) n ++ drop n (replicate 32 0)) all
 
 pub applicate-color-4bpp-spec : {M : Type 1} → statement M
 applicate-color-4bpp-spec =
@@ -58,7 +59,7 @@ applicate-color-4bpp-spec =
     loop-holds
     texel-in-requires
     mul-buffer
-    element-write-buffer
+    array-write-buffer
     add-i
     loop-less
     loop-again

@@ -10,14 +10,14 @@ nine-words-requires : tie.Need-nine-words-requires
 nine-words-requires c κs = search needs
 
 applicate-color-requires : tie.Need-applicate-color-requires
-applicate-color-requires c κs = rw (c .before .nine-words .ensures) (read _ _ _ _ _ _)
+applicate-color-requires c κs = rw (c .nine-words .ensures) (read _ _ _ _ _ _)
 
 block-width-requires : tie.Need-block-width-requires
 block-width-requires c κs = search needs
 
 copy-block-buffer-requires : tie.Need-copy-block-buffer-requires
 copy-block-buffer-requires c κs =
-    let p = c .before .before .before .before .before .before .before .before .pre in
+    let p = c .before .before .before .before .before .before .before .pre in
     fits (p .0) (p .1) (p .2) (c .before .before .block-width .ensures)
 
 same-length : tie.Need-same-length
@@ -25,9 +25,9 @@ same-length c = search needs
 
 returns : tie.Need-returns
 returns c =
-    let a = c .before .before .before .before .before .before .before .before .before .before .before in
-    laid (a .args .p) (now (a .args .«data»)) (a .args .bx) (a .args .by) (now (a .args .image)) _ (a .pre .0 .is-across) (a .pre .0 .is-down)
-    (c .before .before .before .before .before .block-width .ensures) (c .before .before .before .before .before .before .before .before .nine-words .ensures) (c .before .before .before .before .before .before .applicate-color .ensures) (c .before .before .copy-block-buffer .ensures)
+    let a = c .before .before .before .before .before .before .before .before .before .before in
+    laid (a .args .p) (now (a .args .«data»)) (a .args .bx) (a .args .by) (now (a .args .image)) (a .pre .0 .is-across) (a .pre .0 .is-down)
+    (c .before .before .before .before .before .block-width .ensures) (c .before .before .before .before .before .before .before .nine-words .ensures) (c .before .before .before .before .before .before .applicate-color .ensures) (c .before .before .copy-block-buffer .ensures)
 
 pub decode-block-spec : {M : Type 1} → statement M
 decode-block-spec =
