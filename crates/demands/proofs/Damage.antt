@@ -8,6 +8,7 @@ use native.Mathlib.Nat.{mod-lt, div-add-mod', div-lt-iff-lt-mul, mul-le-mul-righ
 use native.Mathlib.Omega.{arith}
 use lib.ListN.{length}
 use Rattle.facts.specs.Tab.{tab}
+use Rattle.facts.proofs.Lists.{tab-in, tab-out}
 use Rattle.facts.proofs.Numbers.{split}
 use Rattle.facts.proofs.Tab.{length-tab, getD-tab}
 use Rattle.grid.specs.Grid.{half, blockWidth, Power, blockAddress, blockColumn, blockRow, beside}
@@ -17,7 +18,6 @@ use Rattle.grid.proofs.Torus.{beside-below}
 use Rattle.texel.proofs.Shares.{half-low}
 use Rattle.demands.specs.Damage.{reach, touched, Spot, spot, spotAt, damaged, Different}
 use Rattle.demands.specs.Footprint.{footprint}
-use Rattle.demands.proofs.Lists.{tab-in, tab-out}
 use Rattle.demands.proofs.Member.{in-footprint, of-footprint}
 use Rattle.demands.proofs.Side.{found, draws, once}
 

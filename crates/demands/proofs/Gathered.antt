@@ -9,8 +9,8 @@ use lib.Dec.{ltb, eqb}
 use lib.ListN.{length}
 use borrow.Author.Tests.{ltb-true, ltb-false, lt-ltb, eqb-true, eqb-false}
 use Rattle.facts.specs.Sum.{sum}
+use Rattle.facts.proofs.Lists.{choice}
 use Rattle.demands.specs.Footprint.{insert, gathered, Rising}
-use Rattle.demands.proofs.Lists.{choice}
 
 -- a list with a number put in: that number and the others
 insert-in : (z a : ℕ) (l : List ℕ) → (z ≡ a) ⊎ List·Memᴰ z l → List·Memᴰ z (insert a l)

@@ -1,6 +1,7 @@
+pub mod Calls
 pub mod Damage
 pub mod Gathered
-pub mod Lists
+pub mod Idle
 pub mod Local
 pub mod Member
 pub mod Numbers

@@ -5,13 +5,13 @@ use mathlib.Core.List.{List·Memᴰ, Memᴰ·cast}
 use mathlib.Core.Logic.{⊎-elim}
 use Prim.Native.Nat.{ℕ, _*_, _<_}
 use native.Mathlib.Omega.{arith}
+use Rattle.facts.proofs.Lists.{in-or-not}
 use Rattle.grid.specs.Grid.{blockWidth, blocks, Power}
 use Rattle.grid.proofs.Counts.{blocks-cover}
 use Rattle.texel.proofs.Shares.{half-low}
 use Rattle.demands.specs.Footprint.{footprint}
 use Rattle.demands.specs.Local.{Covers, Local}
 use Rattle.demands.proofs.Damage.{damaged-size, damaged-listed, damaged-all, damaged-once}
-use Rattle.demands.proofs.Lists.{in-or-not}
 use Rattle.demands.proofs.Member.{of-footprint, footprint-some, footprint-few, footprint-rising, footprint-within, footprint-enough}
 use Rattle.demands.proofs.Told.{told}
 

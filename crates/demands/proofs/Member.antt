@@ -9,6 +9,7 @@ use native.Mathlib.Omega.{arith}
 use lib.ListN.{length}
 use lib.Seq.{getD-drop}
 use Rattle.facts.specs.Sum.{sum}
+use Rattle.facts.proofs.Lists.{not-empty}
 use Rattle.facts.proofs.Numbers.{lt-or-le}
 use Rattle.grid.specs.Grid.{half, blockWidth, Power, blockAddress, beside}
 use Rattle.grid.proofs.Onto.{bijective}
@@ -20,7 +21,6 @@ use Rattle.texel.proofs.Same.{HasShare, own-share, look-same}
 use Rattle.texel.proofs.Shares.{half-low}
 use Rattle.demands.specs.Footprint.{partOf, wrapped, footprint, Rising, SameBlock}
 use Rattle.demands.proofs.Gathered.{gathered-in, gathered-out, gathered-rising, gathered-size}
-use Rattle.demands.proofs.Lists.{not-empty}
 
 -- block z, by its column and row of the nine
 pub record Drawn (two : Bool) (gx gy x y z : ℕ) : Type 0 where

@@ -4,13 +4,13 @@ use mathlib.Core.Logic.{⊎-elim}
 use Prim.Native.Nat.{ℕ, zero, suc, _+_, _-_, _*_, _/_, _%_, _≤_, _<_}
 use native.Mathlib.Nat.{div-add-mod', div-lt-iff-lt-mul, mod-lt, mod-eq-of-lt, mod-add-mod, add-mod-right, mul-le-mul-right}
 use native.Mathlib.Omega.{arith}
+use Rattle.facts.proofs.Lists.{Value}
 use Rattle.facts.proofs.Numbers.{lt-or-le, split}
 use Rattle.grid.specs.Grid.{beside}
 use Rattle.grid.proofs.Torus.{beside-below}
 use Rattle.texel.specs.Texel.{share}
 use Rattle.texel.proofs.Same.{HasShare}
 use Rattle.demands.specs.Damage.{firstTouched, reach, touched}
-use Rattle.demands.proofs.Lists.{Value}
 
 -- from a neighbour, one comes back by the neighbour on the other side
 back : (g c k : ℕ) → c < g → k < 3 → beside g (beside g c k) (2 - k) ≡ c

@@ -15,6 +15,7 @@ use Rattle.facts.specs.Bits.{flags}
 use Rattle.facts.specs.Sum.{sum}
 use Rattle.facts.specs.Tab.{tab}
 use Rattle.facts.proofs.Finite.{below₂}
+use Rattle.facts.proofs.Lists.{choice}
 use Rattle.facts.proofs.Numbers.{lt-or-le}
 use Rattle.facts.proofs.Sum.{term-le}
 use Rattle.facts.proofs.Tab.{length-tab, getD-tab}
@@ -29,7 +30,6 @@ use Rattle.texel.proofs.Range.{words, texel-between}
 use Rattle.texel.proofs.Same.{HasShare, look-same}
 use Rattle.texel.proofs.Shares.{half-low, half-high}
 use Rattle.demands.specs.Footprint.{Told}
-use Rattle.demands.proofs.Lists.{choice}
 use Rattle.demands.proofs.Member.{Drawn}
 
 -- byte k where block z has v in each byte, and every other byte is 0; and the run of these

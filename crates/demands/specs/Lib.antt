@@ -1,4 +1,5 @@
 pub mod Damage
+pub mod Demands
 pub mod Footprint
 pub mod Local
 pub mod Numbers

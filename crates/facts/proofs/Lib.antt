@@ -1,6 +1,7 @@
 pub mod Bits
 pub mod Checks
 pub mod Finite
+pub mod Lists
 pub mod Numbers
 pub mod Powers
 pub mod Sum

@@ -1,9 +1,10 @@
 -- Laws of neighbours on the torus. Assumes nothing.
 use mathlib.Core.Path.{_≡_, sym, ap, _∙_}
 use Prim.Native.Nat.{ℕ, _+_, _-_, _*_, _/_, _%_, _^_, _≤_, _<_}
-use native.Mathlib.Nat.{add-mod-right, add-mul-mod-self-right, mod-lt, mod-eq-of-lt, div-add-mod'}
+use native.Mathlib.Nat.{add-mod-right, add-mul-mod-self-right, div-add-mod', mod-eq-of-lt, mod-lt, mul-le-mul-right}
 use native.Mathlib.Omega.{arith}
 use lib.Pow.{pow-pos}
+use Rattle.facts.proofs.Numbers.{split}
 use Rattle.facts.proofs.Powers.{pow-split}
 use Rattle.grid.specs.Grid.{beside}
 
@@ -16,6 +17,22 @@ beside-below g q k h = mod-lt (q + k + g - 1) h
 pub beside-own : (g q : ℕ) → q < g → beside g q 1 ≡ q
 unfolding beside
 beside-own g q h = ap (λ (n : ℕ). n % g) (omega arith) ∙ add-mod-right q g ∙ mod-eq-of-lt h
+
+-- a number round g blocks of b: its block goes round, its place in the block stays
+pub round : (b g n : ℕ) → 0 < b → 0 < g → (n % (g * b) / b ≡ n / b % g) × (n % (g * b) % b ≡ n % b)
+round b g n lb lg =
+    let q : ℕ = n / b in
+    let r : ℕ = n % b in
+    let c : ℕ = q % g in
+    let t : ℕ = q / g in
+    let lr : r < b = mod-lt n lb in
+    let lc : c < g = mod-lt q lg in
+    let whole : q * b + r ≡ n = div-add-mod' n b in
+    let block : t * g + c ≡ q = div-add-mod' q g in
+    let fits : (c + 1) * b ≤ g * b = mul-le-mul-right b (omega arith) in
+    let cut : (n / (g * b) ≡ t) × (n % (g * b) ≡ c * b + r) =
+    split (g * b) n t (c * b + r) (omega (arith, ap (λ (m : ℕ). m * b) block)) (omega arith) in
+    split b (n % (g * b)) c r (cut .1) lr
 
 -- how often a side goes into the machine's numbers
 module _ (k side : ℕ) (e : side ≡ 2 ^ k) (h : k ≤ 64) where

@@ -1,31 +1,16 @@
 -- A place of the three by three blocks about a texel, as a place round the picture. Assumes nothing.
 use mathlib.Core.Path.{_≡_, sym, ap, _∙_}
 use Prim.Native.Nat.{ℕ, _+_, _-_, _*_, _/_, _%_, _≤_, _<_}
-use native.Mathlib.Nat.{mod-lt, div-add-mod', mul-le-mul-right, mul-pos, add-mul-mod-self-right}
+use native.Mathlib.Nat.{mod-lt, div-add-mod', mul-pos, add-mul-mod-self-right}
 use native.Mathlib.Omega.{arith}
 use Rattle.facts.proofs.Numbers.{split}
 use Rattle.grid.specs.Grid.{beside}
+use Rattle.grid.proofs.Torus.{round}
 
 -- a place u of the strip of three blocks about that of the texel z is the place `at` round a side of g blocks
 pub record Round (h g z u at : ℕ) : Type 0 where
   pub block : at % (g * (2 * h)) / (2 * h) ≡ beside g (z / (2 * h)) (u / (2 * h))
   pub place : at % (g * (2 * h)) % (2 * h) ≡ u % (2 * h)
-
--- a number round g blocks of b: its block goes round, its place in the block stays
-round : (b g n : ℕ) → 0 < b → 0 < g → (n % (g * b) / b ≡ n / b % g) × (n % (g * b) % b ≡ n % b)
-round b g n lb lg =
-    let q : ℕ = n / b in
-    let r : ℕ = n % b in
-    let c : ℕ = q % g in
-    let t : ℕ = q / g in
-    let lr : r < b = mod-lt n lb in
-    let lc : c < g = mod-lt q lg in
-    let whole : q * b + r ≡ n = div-add-mod' n b in
-    let block : t * g + c ≡ q = div-add-mod' q g in
-    let fits : (c + 1) * b ≤ g * b = mul-le-mul-right b (omega arith) in
-    let cut : (n / (g * b) ≡ t) × (n % (g * b) ≡ c * b + r) =
-    split (g * b) n t (c * b + r) (omega (arith, ap (λ (m : ℕ). m * b) block)) (omega arith) in
-    split b (n % (g * b)) c r (cut .1) lr
 
 module _ (h g z : ℕ) (lh : 0 < h) (lg : 0 < g) where
   -- `at` is the strip's place u less a block, and k whole sides less than one side more

@@ -10,7 +10,7 @@ use borrow.Author.Tests.{eqb-false, ltb-false, leb-false, lt-leb, not-false}
 use Rattle.facts.specs.Checks.{firstOf, at}
 use Rattle.facts.proofs.Checks.{none-holds}
 use Rattle.facts.proofs.Finite.{below}
-use Rattle.grid.specs.Grid.{blockWidth, isPower}
+use Rattle.grid.specs.Grid.{blockWidth, Power, isPower}
 use Rattle.grid.proofs.Counts.{blocks-le, block-below}
 use Rattle.grid.proofs.Powers.{is-power}
 use Rattle.texel.specs.Inner.{Grid}
@@ -83,13 +83,20 @@ few-across p e = omega (arith, blocks-le (blockWidth (p .is2bpp)) (p .width) (wi
 pub few-down : (p : Picture) → largeSide p ≡ false → down p ≤ 65536
 few-down p e = omega (arith, blocks-le 4 (p .height) (omega arith), height-small p e)
 
+-- both sides of the grid are powers of two
+pub power-across : (p : Picture) → notPower p ≡ false → Power (across p)
+power-across p e = is-power (across p) (not-false _ (or-left _ (not (isPower (down p))) e))
+
+pub power-down : (p : Picture) → notPower p ≡ false → Power (down p)
+power-down p e = is-power (down p) (not-false _ (or-right (not (isPower (across p))) _ e))
+
 module _ {p : Picture} {c : Call} {len : ℕ} (a : Accepted p c len) where
   -- its grid has powers of two as its sides, and its words stand in the data
   pub grid : Grid (across p) (down p) len
   grid =
       record {
-        power-across = is-power (across p) (not-false _ (or-left _ (not (isPower (down p))) (a .powers)));
-        power-down = is-power (down p) (not-false _ (or-right (not (isPower (across p))) _ (a .powers)));
+        power-across = power-across p (a .powers);
+        power-down = power-down p (a .powers);
         across = few-across p (a .small);
         down = few-down p (a .small);
         enough = ltb-false len (need p) (a .enough);
@@ -121,15 +128,29 @@ pub block-roomy : (p : Picture) (room : ℕ) → shortImage p (call.Block room) 
 unfolding shortImage
 block-roomy p room e = ltb-false room (p .width * p .height) e
 
--- a texel of the picture is accepted where any call on it is
-inside-accepted : (p : Picture) (c : Call) (x y len : ℕ) → Accepted p c len → x < p .width → y < p .height → firstOf (checks p (call.Texel x y) len) ≡ 0
+-- a call none of whose refusals holds says none
+pub passed : (p : Picture) (c : Call) (len : ℕ) → Accepted p c len → firstOf (checks p c len) ≡ 0
+passed p c len a = sym (says-none _ _ _ _ _ _ (a .sides) (a .small) (a .enough) (a .roomy) (a .powers) (a .inside))
+
+-- a texel of the picture is accepted where its sizes are and the data is long enough
+pub inside-accepted : (p : Picture) (x y len : ℕ) → zeroSide p ≡ false → largeSide p ≡ false → shortData p len ≡ false → notPower p ≡ false
+    → x < p .width → y < p .height → firstOf (checks p (call.Texel x y) len) ≡ 0
 unfolding shortImage outside
-inside-accepted p c x y len a hx hy =
-    sym (says-none _ _ _ _ _ _ (a .sides) (a .small) (a .enough) refl (a .powers) (simp (lt-leb (p .width) x hx, lt-leb (p .height) y hy)))
+inside-accepted p x y len sides small enough powers hx hy =
+    passed p (call.Texel x y) len
+    (record {
+      sides = sides;
+      small = small;
+      enough = enough;
+      roomy = refl;
+      powers = powers;
+      inside = simp (lt-leb (p .width) x hx, lt-leb (p .height) y hy);
+    })
 
 -- so each texel of an accepted row is, and each of an accepted picture
 pub texel-of-row : (p : Picture) (x y room len : ℕ) → Accepted p (call.Row y room) len → x < p .width → firstOf (checks p (call.Texel x y) len) ≡ 0
-texel-of-row p x y room len a hx = inside-accepted p (call.Row y room) x y len a hx (row-inside p y room (a .inside))
+texel-of-row p x y room len a hx =
+    inside-accepted p x y len (a .sides) (a .small) (a .enough) (a .powers) hx (row-inside p y room (a .inside))
 
 pub texel-of-block : (p : Picture) (x y room len : ℕ) → Accepted p (call.Block room) len → x < p .width → y < p .height → firstOf (checks p (call.Texel x y) len) ≡ 0
-texel-of-block p x y room len a hx hy = inside-accepted p (call.Block room) x y len a hx hy
+texel-of-block p x y room len a hx hy = inside-accepted p x y len (a .sides) (a .small) (a .enough) (a .powers) hx hy

@@ -10,8 +10,8 @@ use lib.Seq.{take-all}
 use Rattle.facts.proofs.Tab.{getD-tab}
 use Rattle.grid.specs.Grid.{half, blockWidth, log2, address, blockAddress}
 use Rattle.grid.proofs.Onto.{bijective}
-use Rattle.word.specs.Word.{wordOf}
-use Rattle.word.proofs.Bounds.{Small, small-a, small-b, weight-le}
+use Rattle.word.specs.Word.{Small, wordOf}
+use Rattle.word.proofs.Bounds.{small-a, small-b, weight-le}
 use Rattle.word.specs.declared.PVRTCTexelInfo.{PVRTCTexelInfo}
 use Rattle.texel.specs.Texel.{packed, near, texelIn, about, texelAt, wordsOf, texelWord}
 use Rattle.texel.specs.Inner.{blank, nineOf, side, nineAbout, Grid, Read}
@@ -32,7 +32,7 @@ by-place two gx gy d bx by i j hi hj =
     let down : (3 * j + i) / 3 ≡ j = omega arith in
     the-word two gx gy d bx by (3 * j + i) (omega arith) ∙ rw (across, down)
 
-small-side : (two second : Bool) (d : List ℕ) → Small (side second (wordOf two d))
+pub small-side : (two second : Bool) (d : List ℕ) → Small (side second (wordOf two d))
 small-side two true d = small-b two d
 small-side two false d = small-a two d
 

@@ -8,7 +8,7 @@ use native.Mathlib.Omega.{arith}
 use lib.ListN.{getD}
 use Rattle.grid.specs.Grid.{half, blockWidth, beside}
 use Rattle.word.specs.Word.{wordOf}
-use Rattle.word.proofs.Bounds.{Small, small-a, small-b, weight-le}
+use Rattle.word.proofs.Bounds.{weight-le}
 use Rattle.word.specs.declared.Fill.{Fill}
 use Rattle.word.specs.declared.Fill.the-variants.{Nothing, Around, AboveBelow, LeftRight}
 use Rattle.word.specs.declared.PVRTCTexelColor.{PVRTCTexelColor}
@@ -16,6 +16,7 @@ use Rattle.word.specs.declared.PVRTCTexelInfo.{PVRTCTexelInfo}
 use Rattle.texel.specs.Texel.{Words, nineSum, blended, Pixel, packed, scaled, blend, near, filled, ruleAt, punched, mixed, texelIn, about, texelAt}
 use Rattle.texel.specs.Inner.{side, sumsTo, toBytes, pixel, Bytes}
 use Rattle.texel.proofs.Blend.{between, bytes, word-below}
+use Rattle.texel.proofs.Nine.{small-side}
 use Rattle.texel.proofs.Shares.{half-low}
 use Rattle.texel.proofs.Sums.{sums-low}
 
@@ -62,10 +63,6 @@ module _ (two : Bool) (of : ℕ → ℕ → List ℕ) where
   filled-le AboveBelow x y = omega (arith, near-le x (y - 1), near-le x (y + 1))
   filled-le LeftRight x y = omega (arith, near-le (x - 1) y, near-le (x + 1) y)
 
-  small-side : (second : Bool) (i j : ℕ) → Small (side second (words i j))
-  small-side true i j = small-b two (of i j)
-  small-side false i j = small-a two (of i j)
-
   module _ (px py : ℕ) (lx : px < blockWidth two) (ly : py < 4) where
     -- colour A, or B, at the place: of 8 bits
     abbrev pub colorAt : (second : Bool) → Pixel
@@ -74,7 +71,7 @@ module _ (two : Bool) (of : ℕ → ℕ → List ℕ) where
     color-bytes : (second : Bool) → Bytes (toBytes (half two) (sumsTo (half two) words second px py 9))
     color-bytes second =
         bytes two (sumsTo (half two) words second px py 9)
-        (sums-low (half two) words second px py lx ly 9 (omega arith) (λ k l. small-side second (k % 3) (k / 3)))
+        (sums-low (half two) words second px py lx ly 9 (omega arith) (λ k l. small-side two second (of (k % 3) (k / 3))))
 
     -- each channel of a texel lies between A's and B's, alpha where it is not punched through
     pub texel-between : Between (colorAt false) (colorAt true) (texelIn (half two) words px py) (punched (half two) (words 1 1) px py)

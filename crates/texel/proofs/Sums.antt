@@ -8,7 +8,7 @@ use lib.ListN.{getD}
 use Rattle.facts.specs.Sum.{sum}
 use Rattle.facts.proofs.Sum.{sum-front, sum-more, products-le}
 use Rattle.grid.specs.Grid.{half}
-use Rattle.word.proofs.Bounds.{Small}
+use Rattle.word.specs.Word.{Small}
 use Rattle.word.specs.declared.PVRTCTexelColor.{PVRTCTexelColor}
 use Rattle.word.specs.declared.PVRTCTexelInfo.{PVRTCTexelInfo}
 use Rattle.texel.specs.declared.PVRTCTexelColorInt.{PVRTCTexelColorInt}

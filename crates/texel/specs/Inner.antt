@@ -7,7 +7,7 @@ use lib.ListN.{getD}
 use Rattle.facts.specs.Sum.{sum}
 use Rattle.facts.specs.Tab.{tab}
 use Rattle.grid.specs.Grid.{half, blockWidth, Power, beside}
-use Rattle.word.proofs.Bounds.{Small}
+use Rattle.word.specs.Word.{Small}
 use Rattle.word.specs.declared.Fill.the-variants.{Nothing}
 use Rattle.word.specs.declared.PVRTCTexelColor.{PVRTCTexelColor}
 use Rattle.word.specs.declared.PVRTCTexelInfo.{PVRTCTexelInfo}

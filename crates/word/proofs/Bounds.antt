@@ -14,16 +14,8 @@ use Rattle.facts.proofs.Bits.{flags-bit}
 use Rattle.facts.proofs.Finite.{at}
 use Rattle.facts.proofs.Numbers.{cond-le}
 use Rattle.facts.proofs.Tab.{length-tab, getD-tab, tab-front}
-use Rattle.word.specs.Word.{modulation, colorA, colorB, mode, opaque, blueA, blueB, colorOf, code, standardWeight, punchThroughWeight, weight4, punch4, holdsCode, givesBit, stored2, weight2, wordOf}
+use Rattle.word.specs.Word.{modulation, colorA, colorB, mode, opaque, blueA, blueB, colorOf, Small, code, standardWeight, punchThroughWeight, weight4, punch4, holdsCode, givesBit, stored2, weight2, wordOf}
 use Rattle.word.specs.declared.Fill.the-variants.{Nothing}
-use Rattle.word.specs.declared.PVRTCTexelColor.{PVRTCTexelColor}
-
--- a colour's channels have five bits, its alpha four
-pub record Small (c : PVRTCTexelColor) : Type 0 where
-  pub r : c .r ≤ 31
-  pub g : c .g ≤ 31
-  pub b : c .b ≤ 31
-  pub a : c .a ≤ 15
 
 small : (c blue : ℕ) → blue ≤ 31 → Small (colorOf c blue)
 small c blue h =

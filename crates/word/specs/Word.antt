@@ -2,7 +2,7 @@
 -- `d` is the list of bytes that starts with the word's eight; a byte past its end counts as 0.
 use mathlib.Core.Bool.{Bool, true, false, cond, _&&_, _||_}
 use mathlib.Core.List.{List, [], _∷_, _++_}
-use Prim.Native.Nat.{ℕ, _+_, _*_, _/_, _%_, _^_}
+use Prim.Native.Nat.{ℕ, _+_, _*_, _/_, _%_, _^_, _≤_}
 use lib.Bits.{bitAnd}
 use lib.Dec.{eqb}
 use lib.ListN.{getD, drop, replicate}
@@ -56,6 +56,13 @@ blueB c = cond (opaque c) (bits c 4 0) (bits c 3 0 * 2 + bits c 3 3)
 -- A colour with its blue, which alone is read differently in A and in B.
 abbrev pub colorOf : ℕ → ℕ → PVRTCTexelColor
 colorOf c blue = record { r = red c; g = green c; b = blue; a = alpha c }
+
+-- A colour's channels have five bits, its alpha four.
+pub record Small (c : PVRTCTexelColor) : Type 0 where
+  pub r : c .r ≤ 31
+  pub g : c .g ≤ 31
+  pub b : c .b ≤ 31
+  pub a : c .a ≤ 15
 
 -- The record with the word's two colours, and the rest of it as it was.
 abbrev pub withColors : List ℕ → PVRTCTexelInfo → PVRTCTexelInfo
