@@ -2,7 +2,7 @@
 use mathlib.Core.Path.{_≡_, refl, sym, ap, _∙_}
 use mathlib.Core.Bool.{Bool, true, false, cond}
 use mathlib.Core.List.{List}
-use Prim.Native.Nat.{ℕ, zero, suc, _<_}
+use Prim.Native.Nat.{ℕ, zero, suc, _<_, _≤_}
 use native.Mathlib.Omega.{arith}
 use lib.Dec.{eqb}
 use borrow.Author.Tests.{eq-eqb, ne-eqb}
@@ -17,14 +17,20 @@ use Rattle.pvrtc.specs.declared.Call.the-variants as call
 use Rattle.pvrtc.specs.Calls.{refusal, pictureTexel, TexelRead, Written}
 use Rattle.pvrtc.specs.Refusals.{numberOf, decodedNumber, texelNumber, texelValue}
 
--- a refusal's number is not 0
+-- a refusal's number is 1 to 6
+number-range : (f : Refusal) → (0 < numberOf f) × (numberOf f ≤ 6)
+number-range ZeroSide = omega arith
+number-range LargeSide = omega arith
+number-range ShortData = omega arith
+number-range ShortImage = omega arith
+number-range NotPowerOfTwo = omega arith
+number-range Outside = omega arith
+
 pub number-above : (f : Refusal) → 0 < numberOf f
-number-above ZeroSide = omega arith
-number-above LargeSide = omega arith
-number-above ShortData = omega arith
-number-above ShortImage = omega arith
-number-above NotPowerOfTwo = omega arith
-number-above Outside = omega arith
+number-above f = number-range f .0
+
+pub number-small : (f : Refusal) → numberOf f ≤ 6
+number-small f = number-range f .1
 
 -- and tells which it is
 ofNumber : ℕ → Refusal

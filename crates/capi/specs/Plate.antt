@@ -1,0 +1,36 @@
+-- What C is told: answers as numbers. Assumes nothing: these are definitions.
+use mathlib.Core.Path.{_≡_}
+use mathlib.Core.Bool.{Bool, cond, not}
+use mathlib.Core.List.{List}
+use Prim.Native.Nat.{ℕ, _+_, _*_}
+use lib.Dec.{eqb}
+use lib.ListN.{length}
+use Rattle.paint.specs.Paint.{painted}
+use Rattle.pvrtc.specs.Calls.{picture, refusal, pictureTexel}
+use Rattle.pvrtc.specs.declared.Call.the-variants as call
+use Rattle.pvrtc.specs.declared.Picture.{Picture}
+
+-- Depth 0 is 4bpp, any other number 2bpp.
+abbrev pub plate : ℕ → ℕ → ℕ → Picture
+plate width height depth = picture width height (not (eqb depth 0))
+
+-- The texel in the low 32 bits, the refusal's number above, and the texel 0 when refused.
+abbrev pub texelAnswer : Picture → List ℕ → ℕ → ℕ → ℕ
+texelAnswer p d x y =
+    let n = refusal p (call.Texel x y) d in
+    cond (eqb n 0) (pictureTexel p d x y) 0 + 4294967296 * n
+
+-- A call that writes into lent words: the refusal's number, and the words afterwards.
+pub record Wrote (n : ℕ) (done old new : List ℕ) (r : ℕ) : Type 0 where
+  pub number : r ≡ n
+  pub words : new ≡ cond (eqb n 0) done old
+
+-- A row: texel (x, y) at word x.
+abbrev pub WroteRow : Picture → List ℕ → ℕ → (old new : List ℕ) → ℕ → Type 0
+WroteRow p d y old new r =
+    Wrote (refusal p (call.Row y (length old)) d) (painted 0 (p .width) (p .width) 1 (λ x _. pictureTexel p d x y) old) old new r
+
+-- A picture: texel (x, y) at word y × width + x.
+abbrev pub WrotePicture : Picture → List ℕ → (old new : List ℕ) → ℕ → Type 0
+WrotePicture p d old new r =
+    Wrote (refusal p (call.Block (length old)) d) (painted 0 (p .width) (p .width) (p .height) (pictureTexel p d) old) old new r

@@ -1,0 +1,78 @@
+// What C calls: include/plate.h declares these functions. A slice is a pointer and a length in C.
+ghost use mathlib.Core.Path.{_≡_};
+ghost use Rattle.pvrtc.specs.Refusals.{decodedNumber};
+ghost use Rattle.capi.specs.Plate.{plate, texelAnswer, WroteRow, WrotePicture};
+use pvrtc::Decoded;
+use pvrtc::Texel;
+
+// Texel (x, y): its word in the low 32 bits, the refusal's number above.
+#[no_mangle]
+pub extern "C" fn plate_texel(
+    data: &[u8],
+    width: u64,
+    height: u64,
+    depth: u32,
+    x: u64,
+    y: u64,
+) -> u64
+    ensures { λ r. ⌜ r ≡ texelAnswer (plate width height depth) (now («data» .entry)) x y ⌝ }
+{
+    let answer = pvrtc::decode_texel(
+        data,
+        width as usize,
+        height as usize,
+        depth != 0,
+        x as usize,
+        y as usize,
+    );
+    match answer {
+        Texel::Word(word) => word as u64,
+        Texel::Refused(f) => 4294967296 * pvrtc::refusal_number(f),
+    }
+}
+
+// The refusal's number of a call that writes, 0 for none.
+fn number_of(answer: Decoded) -> u64
+    ensures { λ r. ⌜ r ≡ decodedNumber answer ⌝ }
+{
+    match answer {
+        Decoded::Done => 0,
+        Decoded::Refused(f) => pvrtc::refusal_number(f),
+    }
+}
+
+// Row y into lent words.
+#[no_mangle]
+pub extern "C" fn plate_row(
+    data: &[u8],
+    width: u64,
+    height: u64,
+    depth: u32,
+    y: u64,
+    row: &mut [u32],
+) -> u64
+    ensures { λ r. ⌜ WroteRow (plate width height depth) (now («data» .entry)) y (now (row .entry)) (now (row .exit)) r ⌝ }
+{
+    number_of(pvrtc::decode_row(
+        data,
+        width as usize,
+        height as usize,
+        depth != 0,
+        y as usize,
+        row,
+    ))
+}
+
+// The whole picture into lent words.
+#[no_mangle]
+pub extern "C" fn plate_picture(
+    data: &[u8],
+    width: u64,
+    height: u64,
+    depth: u32,
+    image: &mut [u32],
+) -> u64
+    ensures { λ r. ⌜ WrotePicture (plate width height depth) (now («data» .entry)) (now (image .entry)) (now (image .exit)) r ⌝ }
+{
+    number_of(pvrtc::decode_pvrtc(data, width as usize, height as usize, image, depth != 0))
+}
