@@ -1,12 +1,14 @@
 -- A number is said exactly when its condition holds and no earlier one does. Assumes nothing.
 use mathlib.Core.Path.{_≡_, refl, sym, ap, _∙_}
 use mathlib.Core.Bool.{Bool, true, false, cond}
-use mathlib.Core.List.{List, [], _∷_}
+use mathlib.Core.List.{List, [], _∷_, _++_}
 use mathlib.Core.Logic.{_↔_}
 use Prim.Native.Nat.{ℕ, zero, suc, _+_, _<_, _≤_}
 use native.Mathlib.Nat.{le-of-suc-le-suc, not-suc-le-zero}
 use native.Mathlib.Omega.{arith}
+use lib.Dec.{eqb}
 use lib.ListN.{length, getD}
+use borrow.Author.Tests.{ne-eqb}
 use Rattle.facts.specs.Checks.{Check, firstOf, at, Given}
 
 -- a check that does not hold stands before the place
@@ -55,3 +57,14 @@ none-holds (c ∷ l) p e k = by (c .holds) refl e (none-holds l (λ j h. p (suc 
     by true h q rest k = absurd (omega (arith, p 0 (omega arith)))
     by false h q rest zero = h
     by false h q rest (suc k) = rest q k
+
+-- of two lists, one after the other, the second speaks where the first says nothing
+pub first-append : (l m : List Check) → ((k : ℕ) → k < length l → 0 < at l k .number) → firstOf (l ++ m) ≡ cond (eqb (firstOf l) 0) (firstOf m) (firstOf l)
+unfolding firstOf
+first-append [] m p = refl
+first-append (c ∷ l) m p = by (c .holds) (first-append l m (λ j h. p (suc j) (omega arith)))
+  where
+    by : (t : Bool) → firstOf (l ++ m) ≡ cond (eqb (firstOf l) 0) (firstOf m) (firstOf l)
+        → cond t (c .number) (firstOf (l ++ m)) ≡ cond (eqb (cond t (c .number) (firstOf l)) 0) (firstOf m) (cond t (c .number) (firstOf l))
+    by true e = rw (ne-eqb (c .number) 0 (omega (arith, p 0 (omega arith))))
+    by false e = e

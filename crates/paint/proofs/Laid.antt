@@ -53,7 +53,7 @@ word-more start stride i f old l fits =
         ∙ painted-out start stride i 1 wide f old k (λ x y hx hy q. out x y (omega arith) hy q)
 
 -- of one row the stride does not count
-one-row : (start stride other w : ℕ) (f : ℕ → ℕ → ℕ) (old : List ℕ) → w ≤ stride → w ≤ other → painted start stride w 1 f old ≡ painted start other w 1 f old
+pub one-row : (start stride other w : ℕ) (f : ℕ → ℕ → ℕ) (old : List ℕ) → w ≤ stride → w ≤ other → painted start stride w 1 f old ≡ painted start other w 1 f old
 one-row start stride other w f old wide wide' =
     is-painted start other w 1 wide' f old (painted start stride w 1 f old) (length-painted start stride w 1 wide f old)
     (λ x y hx hy l. ap (λ (k : ℕ). getD (painted start stride w 1 f old) k 0) (flat x y hy)
