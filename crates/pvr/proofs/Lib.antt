@@ -1,0 +1,5 @@
+pub mod Answers
+pub mod NoEffect
+pub mod Order
+pub mod Starts
+pub mod Unique

@@ -1,0 +1,80 @@
+-- Flags, colour space, channel type and whatever follows the header have no effect on how it is read. Assumes nothing.
+use mathlib.Core.Path.{_≡_, refl, sym, ap, _∙_}
+use mathlib.Core.Bool.{Bool, true, false, not}
+use mathlib.Core.List.{List}
+use Prim.Native.Nat.{ℕ, _+_, _<_, _≤_}
+use native.Mathlib.Omega.{arith}
+use lib.Dec.{ltb}
+use lib.ListN.{length, getD}
+use borrow.Author.Tests.{ltb-false, le-ltb, lt-leb}
+use Rattle.pvr.specs.declared.Header.{Header}
+use Rattle.pvr.specs.Header.{u32At, version, headerSize, pixelFormat, widthField, heightField, payloadOffset, shortHeader, notPvr, notOnePlate, headerRefusal, HeaderRead}
+use Rattle.pvr.specs.NoEffect.{hasNoEffect, SameHeader}
+use Rattle.pvr.proofs.Order.{holds-here}
+use Rattle.pvr.proofs.Starts.{same-start}
+use Rattle.pvr.proofs.Unique.{one-header}
+
+-- files of one length, and files that both have the header whole
+module _ (f g : List ℕ) (e : (i : ℕ) → i < headerSize → hasNoEffect i ≡ false → getD f i 0 ≡ getD g i 0) where
+  pub of-one-length : length f ≡ length g → SameHeader f g
+  of-one-length h = record { short = ap (λ (n : ℕ). ltb n headerSize) h; bytes = e }
+
+  pub of-whole : headerSize ≤ length f → headerSize ≤ length g → SameHeader f g
+  of-whole hf hg = record { short = le-ltb _ _ hf ∙ sym (le-ltb _ _ hg); bytes = e }
+
+module _ {f g : List ℕ} (s : SameHeader f g) where
+  -- a field none of whose bytes is without effect
+  field : (at : ℕ) → at + 4 ≤ headerSize → hasNoEffect at ≡ false → hasNoEffect (at + 1) ≡ false → hasNoEffect (at + 2) ≡ false → hasNoEffect (at + 3) ≡ false
+      → u32At f at ≡ u32At g at
+  unfolding u32At
+  field at h a b c d =
+      rw (s .bytes at (omega arith) a, s .bytes (at + 1) (omega arith) b, s .bytes (at + 2) (omega arith) c, s .bytes (at + 3) (omega arith) d)
+
+  same-format : pixelFormat f ≡ pixelFormat g
+  same-format = rw (field 8 (omega arith) refl refl refl refl, field 12 (omega arith) refl refl refl refl)
+
+  same-width : widthField f ≡ widthField g
+  same-width = field 28 (omega arith) refl refl refl refl
+
+  same-height : heightField f ≡ heightField g
+  same-height = field 24 (omega arith) refl refl refl refl
+
+  same-payload : payloadOffset f ≡ payloadOffset g
+  same-payload = ap (λ (n : ℕ). headerSize + n) (field 48 (omega arith) refl refl refl refl)
+
+  same-plates : notOnePlate f ≡ notOnePlate g
+  unfolding notOnePlate
+  same-plates =
+      rw (
+        field 32 (omega arith) refl refl refl refl,
+        field 36 (omega arith) refl refl refl refl,
+        field 40 (omega arith) refl refl refl refl,
+        field 44 (omega arith) refl refl refl refl,
+      )
+
+  same-version : shortHeader f ≡ false → notPvr f ≡ notPvr g
+  same-version e =
+      let hf : headerSize ≤ length f = ltb-false _ _ e in
+      let hg : headerSize ≤ length g = ltb-false _ _ (sym (s .short) ∙ e) in
+      ap not (same-start f g version (omega arith) (omega arith) (λ i h. s .bytes i (omega arith) (simp (lt-leb 4 i h, lt-leb 16 i (omega arith), lt-leb 20 i (omega arith)))))
+
+  same-number : headerRefusal f ≡ headerRefusal g
+  same-number = by (shortHeader f) refl
+    where
+      by : (t : Bool) → shortHeader f ≡ t → headerRefusal f ≡ headerRefusal g
+      by true e = sym (holds-here _ 11 _ e) ∙ holds-here _ 11 _ (sym (s .short) ∙ e)
+      by false e = rw (s .short, same-version e, same-format, same-plates)
+
+  pub no-effect : {r : Header} → HeaderRead f r → HeaderRead g r
+  no-effect p =
+      record {
+        number = p .number ∙ same-number;
+        width = p .width ∙ rw (same-number, same-width);
+        height = p .height ∙ rw (same-number, same-height);
+        bits = p .bits ∙ rw (same-number, same-format);
+        payload = p .payload ∙ rw (same-number, same-payload);
+      }
+
+  -- so both files have one answer
+  pub same-answer : {r q : Header} → HeaderRead f r → HeaderRead g q → r ≡ q
+  same-answer {r} {q} a b = one-header g r q (no-effect a) b

@@ -1,0 +1,56 @@
+-- Comparing a file's first bytes from the front on. Assumes nothing.
+use mathlib.Core.Path.{_≡_, refl, _∙_}
+use mathlib.Core.Bool.{Bool, true, false, _&&_}
+use mathlib.Core.List.{List, [], _∷_}
+use Prim.Native.Nat.{ℕ, suc, _+_, _<_, _≤_}
+use native.Mathlib.Nat.{le-of-suc-le-suc, not-suc-le-zero}
+use native.Mathlib.Numerals.{add-one}
+use native.Mathlib.Omega.{arith}
+use lib.Dec.{eqb}
+use lib.ListN.{length, getD, drop, drop-of-length-le}
+use lib.Seq.{drop-cons}
+use borrow.Author.Tests.{eq-eqb, ne-eqb}
+use Rattle.pvr.specs.Header.{startsWith}
+
+-- a file that is too short does not start with the bytes
+pub too-short : (f p : List ℕ) → length f < length p → false ≡ startsWith f p
+unfolding startsWith
+too-short f [] h = absurd (not-suc-le-zero h)
+too-short [] (b ∷ p) h = refl
+too-short (a ∷ f) (b ∷ p) h = rw (← too-short f p (le-of-suc-le-suc h)) (with-false (eqb a b))
+  where
+    with-false : (t : Bool) → false ≡ (t && false)
+    with-false true = refl
+    with-false false = refl
+
+-- the first i bytes are alike: what the rest says is what the whole says
+pub record Alike (f p : List ℕ) (i : ℕ) : Type 0 where
+  pub rest : startsWith f p ≡ startsWith (drop i f) (drop i p)
+
+pub alike-none : (f p : List ℕ) → Alike f p 0
+alike-none f p = record { rest = refl }
+
+module _ {f p : List ℕ} {i : ℕ} (a : Alike f p i) where
+  -- byte i decides, or is passed
+  split : i < length f → i < length p → startsWith f p ≡ (eqb (getD f i 0) (getD p i 0) && startsWith (drop (suc i) f) (drop (suc i) p))
+  unfolding startsWith
+  split hf hp = a .rest ∙ rw (drop-cons f i 0 hf, drop-cons p i 0 hp)
+
+  pub alike-more : i < length f → i < length p → getD f i 0 ≡ getD p i 0 → Alike f p (i + 1)
+  alike-more hf hp e = record { rest = split hf hp ∙ rw (eq-eqb _ _ e, add-one i) }
+
+  pub alike-not : i < length f → i < length p → (getD f i 0 ≡ getD p i 0 → ⊥) → false ≡ startsWith f p
+  alike-not hf hp n = rw (split hf hp, ne-eqb _ _ n)
+
+  pub alike-end : length p ≤ i → true ≡ startsWith f p
+  unfolding startsWith
+  alike-end h = rw (a .rest, drop-of-length-le p h)
+
+-- two files that are long enough and alike there start with the same bytes
+pub same-start : (f g p : List ℕ) → length p ≤ length f → length p ≤ length g → ((i : ℕ) → i < length p → getD f i 0 ≡ getD g i 0) → startsWith f p ≡ startsWith g p
+unfolding startsWith
+same-start f g [] hf hg e = refl
+same-start [] g (b ∷ p) hf hg e = absurd (not-suc-le-zero hf)
+same-start (a ∷ f) [] (b ∷ p) hf hg e = absurd (not-suc-le-zero hg)
+same-start (a ∷ f) (a' ∷ g) (b ∷ p) hf hg e =
+    rw (e 0 (omega arith), same-start f g p (le-of-suc-le-suc hf) (le-of-suc-le-suc hg) (λ i h. e (suc i) (omega arith)))

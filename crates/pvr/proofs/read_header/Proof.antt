@@ -1,0 +1,111 @@
+-- `pvr::read_header` meets its contract: the checks are made in their order, and past the last the fields are those of the definition. Assumes nothing.
+use mathlib.Core.Bool.{not}
+use mathlib.Core.Path.{_≡_, sym, ap, _∙_}
+use Prim.Native.Nat.{ℕ, _+_}
+use denote.Ref.{now}
+use lib.Dec.{ltb}
+use borrow.Author.Needs.{needs}
+use borrow.Author.Tests.{lt-ltb, le-ltb}
+use Rattle.pvr.specs.Header.{headerSize, headerRefusal}
+use Rattle.pvr.proofs.Answers.{by-plate, by-refusal}
+use Rattle.pvr.proofs.Order.{holds-here, holds-later, none-left}
+use Rattle.pvr.proofs.read_header.Statement.{statement}
+use Rattle.pvr.proofs.read_header.Tie as tie
+
+returns : tie.Need-returns
+returns c =
+    by-refusal
+    (holds-here _ _ _ (lt-ltb _ _ (c .if1 .taken)))
+
+slice-aggregate-starts-with : tie.Need-slice-aggregate-starts-with
+slice-aggregate-starts-with c = search needs
+
+starts-with-requires : tie.Need-starts-with-requires
+starts-with-requires c κs = search needs
+
+returns-2 : tie.Need-returns-2
+returns-2 c =
+    by-refusal
+    (holds-later _ _ _ (le-ltb _ _ (c .before .before .before .if1 .left))
+    (holds-here _ _ _ (ap not (sym (c .before .starts-with .ensures)) ∙ c .if2 .taken)))
+
+u64-at-requires : tie.Need-u64-at-requires
+u64-at-requires c κs = search needs
+
+returns-3 : tie.Need-returns-3
+returns-3 c =
+    by-refusal
+    (holds-later _ _ _ (le-ltb _ _ (c .before .before .before .before .before .if1 .left))
+    (holds-later _ _ _ (ap not (sym (c .before .before .before .starts-with .ensures)) ∙ c .before .before .if2 .left)
+    (holds-here _ _ _ (lt-ltb 3 _ (rw (c .before .u64-at .ensures) at (c .if3 .taken))))))
+
+is-not-one-plate-requires : tie.Need-is-not-one-plate-requires
+is-not-one-plate-requires c κs = search needs
+
+returns-4 : tie.Need-returns-4
+returns-4 c =
+    by-refusal
+    (holds-later _ _ _ (le-ltb _ _ (c .before .before .before .before .before .before .before .if1 .left))
+    (holds-later _ _ _ (ap not (sym (c .before .before .before .before .before .starts-with .ensures)) ∙ c .before .before .before .before .if2 .left)
+    (holds-later _ _ _ (le-ltb 3 _ (rw (c .before .before .before .u64-at .ensures) at (c .before .before .if3 .left)))
+    (holds-here _ _ _ (sym (c .before .is-not-one-plate .ensures) ∙ c .if4 .taken)))))
+
+u32-at-requires : tie.Need-u32-at-requires
+u32-at-requires c κs = search needs
+
+cast-width : tie.Need-cast-width
+cast-width c = search needs
+
+u32-at-requires-2 : tie.Need-u32-at-requires-2
+u32-at-requires-2 c κs = search needs
+
+cast-height : tie.Need-cast-height
+cast-height c = search needs
+
+u32-at-requires-3 : tie.Need-u32-at-requires-3
+u32-at-requires-3 c κs = search needs
+
+cast-payload : tie.Need-cast-payload
+cast-payload c = search needs
+
+add-payload : tie.Need-add-payload
+add-payload c = search needs
+
+returns-5 : tie.Need-returns-5
+returns-5 c =
+    let k = c .before .before .before in
+    let none : 0 ≡ headerRefusal (now (k .before .before .before .before .before .before .before .before .before .args .file)) =
+    holds-later _ _ _ (le-ltb _ _ (k .before .before .before .before .before .before .before .if1 .left))
+    (holds-later _ _ _ (ap not (sym (k .before .before .before .before .before .starts-with .ensures)) ∙ k .before .before .before .before .if2 .left)
+    (holds-later _ _ _ (le-ltb 3 _ (rw (k .before .before .before .u64-at .ensures) at (k .before .before .if3 .left)))
+    (holds-later _ _ _ (sym (k .before .is-not-one-plate .ensures) ∙ k .if4 .left)
+    none-left))) in
+    by-plate
+    (record {
+      accepted = sym none;
+      width = c .before .before .u32-at .ensures .0;
+      height = c .before .u32-at2 .ensures .0;
+      depth = ap (λ (n : ℕ). ltb n 2) (k .before .before .before .u64-at .ensures);
+      payload = ap (λ (n : ℕ). headerSize + n) (c .u32-at3 .ensures .0);
+    })
+
+pub read-header-spec : {M : Type 1} → statement M
+read-header-spec =
+    tie.close
+    (tie.spec
+    returns
+    slice-aggregate-starts-with
+    starts-with-requires
+    returns-2
+    u64-at-requires
+    returns-3
+    is-not-one-plate-requires
+    returns-4
+    u32-at-requires
+    cast-width
+    u32-at-requires-2
+    cast-height
+    u32-at-requires-3
+    cast-payload
+    add-payload
+    returns-5)

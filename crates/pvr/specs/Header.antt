@@ -1,0 +1,154 @@
+-- The PVR version 3 header, as document 01 says it ("The program and its two published layouts"). Assumes nothing: these are definitions.
+-- `file` is the list of the file's bytes; a byte past its end counts as 0.
+use mathlib.Core.Path.{_≡_}
+use mathlib.Core.Bool.{Bool, true, false, not, _&&_, _||_, cond}
+use mathlib.Core.List.{List, [], _∷_}
+use Prim.Native.Nat.{ℕ, _+_, _*_}
+use lib.Dec.{eqb, ltb}
+use lib.ListN.{length, getD}
+use Rattle.facts.specs.Checks.{Check, check, firstOf}
+use Rattle.pvr.specs.declared.Header.{Header}
+use Rattle.pvr.specs.declared.Header.the-variants.{Plate, Refused}
+use Rattle.pvr.specs.declared.HeaderRefusal.{HeaderRefusal}
+use Rattle.pvr.specs.declared.HeaderRefusal.the-variants.{ShortHeader, NotPvr, UnknownFormat, NotOnePlate}
+
+-- The four bytes from place `at` on, little-endian.
+unfoldable pub u32At : List ℕ → ℕ → ℕ
+u32At file at =
+    getD file at 0 + 256 * getD file (at + 1) 0 + 65536 * getD file (at + 2) 0 + 16777216 * getD file (at + 3) 0
+
+-- The eight bytes from place `at` on, little-endian.
+abbrev pub u64At : List ℕ → ℕ → ℕ
+u64At file at = u32At file at + 4294967296 * u32At file (at + 4)
+
+-- Whether a file's first bytes are these.
+unfoldable pub startsWith : List ℕ → List ℕ → Bool
+startsWith file [] = true
+startsWith [] (b ∷ l) = false
+startsWith (a ∷ file) (b ∷ l) = eqb a b && startsWith file l
+
+-- The header: 52 bytes.
+abbrev pub headerSize : ℕ
+headerSize = 52
+
+-- The bytes 50 56 52 03. The flags follow, at place 4.
+abbrev pub version : List ℕ
+version = 0x50 ∷ 0x56 ∷ 0x52 ∷ 0x03 ∷ []
+
+-- The pixel format, all eight bytes of it. The colour space and the channel type follow, at 16 and 20.
+abbrev pub pixelFormat : List ℕ → ℕ
+pixelFormat file = u64At file 8
+
+-- The height.
+abbrev pub heightField : List ℕ → ℕ
+heightField file = u32At file 24
+
+-- The width.
+abbrev pub widthField : List ℕ → ℕ
+widthField file = u32At file 28
+
+-- The depth.
+abbrev pub depthField : List ℕ → ℕ
+depthField file = u32At file 32
+
+-- The surfaces.
+abbrev pub surfacesField : List ℕ → ℕ
+surfacesField file = u32At file 36
+
+-- The faces.
+abbrev pub facesField : List ℕ → ℕ
+facesField file = u32At file 40
+
+-- The levels.
+abbrev pub levelsField : List ℕ → ℕ
+levelsField file = u32At file 44
+
+-- The metadata size.
+abbrev pub metadataSize : List ℕ → ℕ
+metadataSize file = u32At file 48
+
+-- Formats 0 and 1 are 2bpp; 2 and 3 are 4bpp.
+abbrev pub isTwo : List ℕ → Bool
+isTwo file = ltb (pixelFormat file) 2
+
+-- The bits of a texel, at 2bpp if `two`.
+abbrev pub bitsOf : (two : Bool) → ℕ
+bitsOf two = cond two 2 4
+
+-- Level 0 follows the metadata, which follows the header.
+abbrev pub payloadOffset : List ℕ → ℕ
+payloadOffset file = headerSize + metadataSize file
+
+-- Fewer than 52 bytes.
+abbrev pub shortHeader : List ℕ → Bool
+shortHeader file = ltb (length file) headerSize
+
+-- The first four bytes differ.
+abbrev pub notPvr : List ℕ → Bool
+notPvr file = not (startsWith file version)
+
+-- The format is not 0 to 3.
+abbrev pub unknownFormat : List ℕ → Bool
+unknownFormat file = ltb 3 (pixelFormat file)
+
+-- Depth, surfaces or faces is not 1, or levels is 0.
+unfoldable pub notOnePlate : List ℕ → Bool
+notOnePlate file =
+    not (eqb (depthField file) 1) || not (eqb (surfacesField file) 1) || not (eqb (facesField file) 1) || eqb (levelsField file) 0
+
+-- The refusals of the header, in their order.
+abbrev pub headerChecks : List ℕ → List Check
+headerChecks file =
+    check (shortHeader file) 11
+    ∷ check (notPvr file) 12
+    ∷ check (unknownFormat file) 13
+    ∷ check (notOnePlate file) 14
+    ∷ []
+
+-- The number that reading a header says.
+abbrev pub headerRefusal : List ℕ → ℕ
+headerRefusal file = firstOf (headerChecks file)
+
+-- Document 01's number of a refusal.
+abbrev pub numberOf : HeaderRefusal → ℕ
+numberOf ShortHeader = 11
+numberOf NotPvr = 12
+numberOf UnknownFormat = 13
+numberOf NotOnePlate = 14
+
+-- The number that an answer says: 0 for none.
+abbrev pub headerNumber : Header → ℕ
+headerNumber (Plate width height two payload) = 0
+headerNumber (Refused f) = numberOf f
+
+-- The width that an answer gives: 0 where it refuses.
+abbrev pub headerWidth : Header → ℕ
+headerWidth (Plate width height two payload) = width
+headerWidth (Refused f) = 0
+
+-- The height that an answer gives: 0 where it refuses.
+abbrev pub headerHeight : Header → ℕ
+headerHeight (Plate width height two payload) = height
+headerHeight (Refused f) = 0
+
+-- The bits a texel that an answer gives: 0 where it refuses.
+abbrev pub headerBits : Header → ℕ
+headerBits (Plate width height two payload) = bitsOf two
+headerBits (Refused f) = 0
+
+-- The payload offset that an answer gives: 0 where it refuses.
+abbrev pub headerPayload : Header → ℕ
+headerPayload (Plate width height two payload) = payload
+headerPayload (Refused f) = 0
+
+-- A value where the header is accepted, and 0 where it is refused.
+abbrev pub unlessRefused : List ℕ → ℕ → ℕ
+unlessRefused file value = cond (eqb (headerRefusal file) 0) value 0
+
+-- Reading a header: its number, and where that is 0 the sizes, the bits a texel and the payload offset.
+pub record HeaderRead (file : List ℕ) (r : Header) : Type 0 where
+  pub number : headerNumber r ≡ headerRefusal file
+  pub width : headerWidth r ≡ unlessRefused file (widthField file)
+  pub height : headerHeight r ≡ unlessRefused file (heightField file)
+  pub bits : headerBits r ≡ unlessRefused file (bitsOf (isTwo file))
+  pub payload : headerPayload r ≡ unlessRefused file (payloadOffset file)

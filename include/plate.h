@@ -1,0 +1,44 @@
+/* The plate decoder, as C calls it: libcapi.a has these functions.
+ *
+ * They take a run of bytes as a pointer and a length, and lent words as a pointer and their number. They keep within both, call nothing,
+ * and hold nothing back. A refusal is a number, 0 for none:
+ *
+ *   1  a side is 0                              4  too few lent words
+ *   2  a side is above 65,536                   5  blocks across or down is not a power of two
+ *   3  too little data                          6  no such texel or row
+ *  11  a file shorter than its header          13  a pixel format other than 0 to 3
+ *  12  not a PVR version 3 file                14  depth, surfaces or faces not 1, or no level
+ *
+ * A texel is blue + 256 green + 65,536 red + 16,777,216 alpha.
+ */
+#ifndef PLATE_H
+#define PLATE_H
+
+#include <stddef.h>
+#include <stdint.h>
+
+#ifdef __cplusplus
+extern "C" {
+#endif
+
+/* Texel (x, y) of a picture: the texel in the low 32 bits, the refusal's number above them. Refused, the texel is 0.
+ * Depth 0 is 4 bits a texel, any other number 2 bits. */
+uint64_t plate_texel(const uint8_t *data, size_t len, uint64_t width, uint64_t height, uint32_t depth, uint64_t x, uint64_t y);
+
+/* Row y of a picture into `room` lent words: texel (x, y) at word x, later words stay. Answers the refusal's number; refused, every word
+ * stays. */
+uint64_t plate_row(const uint8_t *data, size_t len, uint64_t width, uint64_t height, uint32_t depth, uint64_t y, uint32_t *row, size_t room);
+
+/* A whole picture into `room` lent words: texel (x, y) at word y * width + x, later words stay. Answers the refusal's number; refused,
+ * every word stays. */
+uint64_t plate_picture(const uint8_t *data, size_t len, uint64_t width, uint64_t height, uint32_t depth, uint32_t *image, size_t room);
+
+/* A field of a PVR version 3 file's header. 0: the refusal's number; 1: width; 2: height; 3: bits a texel, 2 or 4; 4: where the picture's
+ * data starts. Fields 1 to 4 of a refused header, and any other field, are 0. */
+uint64_t plate_header(const uint8_t *file, size_t len, uint32_t field);
+
+#ifdef __cplusplus
+}
+#endif
+
+#endif
