@@ -1,14 +1,21 @@
 -- How answers become numbers, and come back from them. Assumes nothing.
-use mathlib.Core.Path.{_≡_, sym, ap, _∙_}
-use mathlib.Core.Bool.{cond}
+use mathlib.Core.Path.{_≡_, refl, sym, ap, _∙_}
+use mathlib.Core.Bool.{Bool, cond}
 use mathlib.Core.List.{List}
-use Prim.Native.Nat.{ℕ, _*_, _/_, _%_, _<_}
+use Prim.Native.Nat.{ℕ, zero, suc, _*_, _/_, _%_, _<_}
 use native.Mathlib.Omega.{arith}
 use lib.Dec.{eqb}
 use lib.ListN.{drop}
+use borrow.Author.Tests.{ne-eqb}
 use Rattle.facts.proofs.Lists.{choice}
 use Rattle.grid.specs.Grid.{blockAddress}
 use Rattle.texel.proofs.Range.{texel-below}
+use Rattle.pvr.proofs.Answers.{PlateRead, of-plate, number-above}
+use Rattle.pvr.specs.Header as header
+use Rattle.pvr.specs.Header.{bitsOf, headerRefusal, headerNumber, HeaderRead}
+use Rattle.pvr.specs.declared.Header.{Header}
+use Rattle.pvr.specs.declared.Header.the-variants.{Plate, Refused}
+use Rattle.pvr.specs.declared.HeaderRefusal.{HeaderRefusal}
 use Rattle.pvrtc.specs.Calls.{refusal, pictureTexel, TexelRead, Written}
 use Rattle.pvrtc.specs.Refusals.{numberOf, decodedNumber, texelNumber, texelValue, across, down}
 use Rattle.pvrtc.specs.declared.Call.the-variants as call
@@ -17,7 +24,7 @@ use Rattle.pvrtc.specs.declared.Picture.{Picture}
 use Rattle.pvrtc.specs.declared.Refusal.{Refusal}
 use Rattle.pvrtc.specs.declared.Texel.{Texel}
 use Rattle.pvrtc.specs.declared.Texel.the-variants as texel
-use Rattle.capi.specs.Plate.{texelAnswer, Wrote}
+use Rattle.capi.specs.Plate.{texelAnswer, Wrote, plateField, headerField}
 
 module _ (p : Picture) (d : List ℕ) (x y : ℕ) {r : Texel} (t : TexelRead p d x y r) where
   pub of-word : {v : ℕ} → r ≡ texel.Word v → v ≡ texelAnswer p d x y
@@ -47,3 +54,40 @@ module _ (p : Picture) (d : List ℕ) (x y : ℕ) where
 
   pub value-back : texelAnswer p d x y % 4294967296 ≡ cond (eqb (refusal p (call.Texel x y) d) 0) (pictureTexel p d x y) 0
   value-back = omega (arith, low)
+
+-- each field of an accepted header by its number
+module _ (width height bits payload : ℕ) {field : ℕ} where
+  pub width-1 : field ≡ 1 → width ≡ plateField width height bits payload field
+  width-1 e = rw e refl
+
+  pub height-2 : field ≡ 2 → height ≡ plateField width height bits payload field
+  height-2 e = rw e refl
+
+  pub bits-3 : {n : ℕ} → field ≡ 3 → n ≡ bits → n ≡ plateField width height bits payload field
+  bits-3 e same = rw e same
+
+  pub payload-4 : field ≡ 4 → payload ≡ plateField width height bits payload field
+  payload-4 e = rw e refl
+
+  pub no-other : (field ≡ 1 → ⊥) → (field ≡ 2 → ⊥) → (field ≡ 3 → ⊥) → (field ≡ 4 → ⊥) → 0 ≡ plateField width height bits payload field
+  no-other a b c d = rw (ne-eqb field 1 a) (rw (ne-eqb field 2 b) (rw (ne-eqb field 3 c) (rw (ne-eqb field 4 d) refl)))
+
+-- no field of an accepted header has number 0
+none-at-0 : (width height bits payload field : ℕ) → plateField width height bits payload field ≡ cond (eqb field 0) 0 (plateField width height bits payload field)
+none-at-0 width height bits payload zero = refl
+none-at-0 width height bits payload (suc k) = rw (ne-eqb (suc k) 0 (λ none. omega arith)) refl
+
+-- how a header's answer becomes a field
+module _ (file : List ℕ) (field : ℕ) {r : Header} (p : HeaderRead file r) where
+  pub field-of-refused : {f : HeaderRefusal} {n : ℕ} → r ≡ Refused f → field ≡ 0 → n ≡ header.numberOf f → n ≡ headerField file field
+  field-of-refused e z q = rw z (q ∙ sym (ap headerNumber e) ∙ p .number)
+
+  pub no-field-of-refused : {f : HeaderRefusal} → r ≡ Refused f → (field ≡ 0 → ⊥) → 0 ≡ headerField file field
+  no-field-of-refused {f} e z =
+      let refused : headerRefusal file ≡ 0 → ⊥ = λ none. omega (arith, number-above f, ap headerNumber e, p .number) in
+      rw (ne-eqb field 0 z) (rw (ne-eqb (headerRefusal file) 0 refused) refl)
+
+  pub field-of-plate : (w h at : ℕ) (two : Bool) {n : ℕ} → r ≡ Plate w h two at → n ≡ plateField w h (bitsOf two) at field → n ≡ headerField file field
+  field-of-plate w h at two e q =
+      let read : PlateRead file w h two at = of-plate (rw e at p) in
+      rw (read .accepted) (rw (sym (read .width)) (rw (sym (read .height)) (rw (sym (read .depth)) (rw (sym (read .payload)) (q ∙ none-at-0 w h (bitsOf two) at field)))))

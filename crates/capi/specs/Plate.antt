@@ -6,6 +6,7 @@ use Prim.Native.Nat.{ℕ, _+_, _*_}
 use lib.Dec.{eqb}
 use lib.ListN.{length}
 use Rattle.paint.specs.Paint.{painted}
+use Rattle.pvr.specs.Header.{headerRefusal, unlessRefused, widthField, heightField, bitsOf, isTwo, payloadOffset}
 use Rattle.pvrtc.specs.Calls.{picture, refusal, pictureTexel}
 use Rattle.pvrtc.specs.declared.Call.the-variants as call
 use Rattle.pvrtc.specs.declared.Picture.{Picture}
@@ -34,3 +35,14 @@ WroteRow p d y old new r =
 abbrev pub WrotePicture : Picture → List ℕ → (old new : List ℕ) → ℕ → Type 0
 WrotePicture p d old new r =
     Wrote (refusal p (call.Block (length old)) d) (painted 0 (p .width) (p .width) (p .height) (pictureTexel p d) old) old new r
+
+-- A field of an accepted header: 1 width, 2 height, 3 bits a texel, 4 the payload offset; any other is 0.
+abbrev pub plateField : (width height bits payload : ℕ) → ℕ → ℕ
+plateField width height bits payload field =
+    cond (eqb field 1) width (cond (eqb field 2) height (cond (eqb field 3) bits (cond (eqb field 4) payload 0)))
+
+-- A field of a file's header: 0 is the refusal's number; of a refused header every other field is 0.
+abbrev pub headerField : List ℕ → ℕ → ℕ
+headerField file field =
+    cond (eqb field 0) (headerRefusal file)
+    (unlessRefused file (plateField (widthField file) (heightField file) (bitsOf (isTwo file)) (payloadOffset file) field))

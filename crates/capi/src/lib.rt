@@ -1,7 +1,9 @@
 // What C calls: include/plate.h declares these functions. A slice is a pointer and a length in C.
 ghost use mathlib.Core.Path.{_≡_};
+ghost use Rattle.pvr.specs.Header.{bitsOf};
 ghost use Rattle.pvrtc.specs.Refusals.{decodedNumber};
-ghost use Rattle.capi.specs.Plate.{plate, texelAnswer, WroteRow, WrotePicture};
+ghost use Rattle.capi.specs.Plate.{plate, texelAnswer, WroteRow, WrotePicture, headerField, plateField};
+use pvr::Header;
 use pvrtc::Decoded;
 use pvrtc::Texel;
 
@@ -75,4 +77,40 @@ pub extern "C" fn plate_picture(
     ensures { λ r. ⌜ WrotePicture (plate width height depth) (now («data» .entry)) (now (image .entry)) (now (image .exit)) r ⌝ }
 {
     number_of(pvrtc::decode_pvrtc(data, width as usize, height as usize, image, depth != 0))
+}
+
+// A field of a file's header.
+#[no_mangle]
+pub extern "C" fn plate_header(file: &[u8], field: u32) -> u64
+    ensures { λ r. ⌜ r ≡ headerField (now (file .entry)) field ⌝ }
+{
+    let header = pvr::read_header(file);
+    match header {
+        Header::Refused(f) => {
+            if field == 0 {
+                pvr::header_refusal_number(f)
+            } else {
+                0
+            }
+        }
+        Header::Plate {
+            width,
+            height,
+            is2bpp,
+            payload,
+        } => plate_field(width, height, is2bpp, payload, field),
+    }
+}
+
+// A field of an accepted header.
+fn plate_field(width: usize, height: usize, is2bpp: bool, payload: usize, field: u32) -> u64
+    ensures { λ r. ⌜ r ≡ plateField width height (bitsOf is2bpp) payload field ⌝ }
+{
+    match field {
+        1 => width as u64,
+        2 => height as u64,
+        3 => if is2bpp { 2 } else { 4 },
+        4 => payload as u64,
+        _ => 0,
+    }
 }

@@ -1,0 +1,49 @@
+use denote.Ref.{now}
+use borrow.Author.Needs.{needs}
+use Rattle.capi.proofs.Answers.{field-of-refused, no-field-of-refused, field-of-plate}
+use Rattle.capi.proofs.plate_header.Statement.{statement}
+use Rattle.capi.proofs.plate_header.Tie as tie
+
+read-header-requires : tie.Need-read-header-requires
+read-header-requires c κs = search needs
+
+enum-known-header : tie.Need-enum-known-header
+enum-known-header c = search needs
+
+header-refusal-number-requires : tie.Need-header-refusal-number-requires
+header-refusal-number-requires c κs = search needs
+
+enum-known-header-2 : tie.Need-enum-known-header-2
+enum-known-header-2 c = search needs
+
+plate-field-requires : tie.Need-plate-field-requires
+plate-field-requires c κs = search needs
+
+returns : tie.Need-returns
+returns c =
+    let a = c .before .before .before .before .before .before .before .args in
+    field-of-refused (now (a .file)) (a .field) (c .before .before .before .before .before .read-header .ensures) (c .before .before .before .header .given .1) (c .before .if1 .taken) (c .header-refusal-number .ensures)
+
+returns-2 : tie.Need-returns-2
+returns-2 c =
+    let a = c .before .before .before .before .before .before .args in
+    no-field-of-refused (now (a .file)) (a .field) (c .before .before .before .before .read-header .ensures) (c .before .before .header .given .1) (c .if1 .left)
+
+returns-3 : tie.Need-returns-3
+returns-3 c =
+    let a = c .before .before .before .before .before .before .args in
+    let v = c .before .before .header2 .given .0 in
+    field-of-plate (now (a .file)) (a .field) (c .before .before .before .before .read-header .ensures) (v .0) (v .1 .0) (v .1 .1 .1 .0) (v .1 .1 .0) (c .before .before .header2 .given .1) (c .plate-field .ensures)
+
+pub plate-header-spec : {M : Type 1} → statement M
+plate-header-spec =
+    tie.close
+    (tie.spec
+    read-header-requires
+    enum-known-header
+    header-refusal-number-requires
+    enum-known-header-2
+    plate-field-requires
+    returns
+    returns-2
+    returns-3)
