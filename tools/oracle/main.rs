@@ -11,7 +11,9 @@ mod draw;
 mod pvrtc {
     include!(concat!(env!("ORIGINAL"), "/pvrtc.rs"));
 
+    mod call;
     pub mod leaves;
+    pub mod pictures;
     pub mod texels;
 }
 
@@ -19,9 +21,10 @@ fn main() {
     let name = std::env::args().nth(1).unwrap_or_default();
     match name.as_str() {
         "leaves" => pvrtc::leaves::print(),
+        "pictures" => pvrtc::pictures::print(),
         "texels" => pvrtc::texels::print(),
         _ => {
-            eprintln!("oracle: no listing is called '{name}'; there are: leaves, texels");
+            eprintln!("oracle: no listing is called '{name}'; there are: leaves, pictures, texels");
             std::process::exit(2);
         }
     }

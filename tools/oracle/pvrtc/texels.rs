@@ -1,42 +1,6 @@
 // The listing `texels`: chosen texels of 270 pictures, then texel calls on both sides of each refusal.
-use super::decode_pvrtc;
+use super::call::{Call, Picture};
 use crate::draw::Draw;
-
-/// The description of a picture.
-#[derive(Clone, Copy)]
-struct Picture {
-    width: usize,
-    height: usize,
-    is2bpp: bool,
-}
-
-impl Picture {
-    fn block_width(self) -> usize {
-        if self.is2bpp {
-            8
-        } else {
-            4
-        }
-    }
-
-    fn blocks_across(self) -> usize {
-        self.width.div_ceil(self.block_width())
-    }
-
-    fn blocks_down(self) -> usize {
-        self.height.div_ceil(4)
-    }
-
-    fn blocks(self) -> usize {
-        self.blocks_across() * self.blocks_down()
-    }
-
-    /// The size and the depth, as a line has them.
-    fn name(self) -> String {
-        let depth = if self.is2bpp { "2bpp" } else { "4bpp" };
-        format!("{} x {}, {depth}", self.width, self.height)
-    }
-}
 
 /// The bits of a word that a kind of picture may decide: bits 0 and 20 of the modulation, the mode, and whether A and B are opaque.
 const BIT_0: u64 = 1;
@@ -124,27 +88,13 @@ fn print_kinds(draw: &mut Draw, width: usize, height: usize, is2bpp: bool) {
             data.extend((drawn_word(draw) & !decided | set).to_le_bytes());
         }
         println!("picture {}, {name}", picture.name());
-        print_places(picture, &decoded(picture, &data));
+        print_places(picture, &picture.decoded(&data));
     }
 }
 
 /// A word of four draws, the first of them lowest.
 fn drawn_word(draw: &mut Draw) -> u64 {
     (0..4).fold(0, |word, i| word | (draw.sixteen_bits() as u64) << (16 * i))
-}
-
-/// The whole picture as the original decodes it.
-fn decoded(picture: Picture, data: &[u8]) -> Vec<u32> {
-    let mut image = vec![0; picture.width * picture.height];
-    let answer = decode_pvrtc(
-        data,
-        picture.width,
-        picture.height,
-        &mut image,
-        picture.is2bpp,
-    );
-    assert_eq!(answer, Ok(()), "{}", picture.name());
-    image
 }
 
 /// The texels at the corners, in the middle of each margin, at the centre, and in the rows of the block that holds the centre.
@@ -253,58 +203,14 @@ fn print_call(bytes: usize, width: usize, height: usize, is2bpp: bool, x: usize,
         height,
         is2bpp,
     };
-    let mut draw = Draw::new();
-    let words = (0..12).flat_map(|_| drawn_word(&mut draw).to_le_bytes());
-    let data: Vec<u8> = words.take(bytes).collect();
-    assert_eq!(data.len(), bytes);
-
-    let number = refusal_number(picture, bytes, x, y);
-    ask_original(picture, &data, number);
+    let data = Draw::new().bytes(bytes);
+    let number = picture.refusal_number(bytes, Call::Texel { x, y });
+    picture.ask_for_part(&data, number);
     let answer = if number == 0 {
-        format!("{:08x}", decoded(picture, &data)[y * width + x])
+        format!("{:08x}", picture.decoded(&data)[y * width + x])
     } else {
         format!("refused {number}")
     };
     let name = picture.name();
     println!("call {name}, {bytes} bytes, texel {x} {y}: {answer}");
-}
-
-/// The number that a texel call says, 0 for none. The original has no such call and no numbers: this is written from the table of
-/// document 01, "What a call says".
-fn refusal_number(picture: Picture, bytes: usize, x: usize, y: usize) -> u32 {
-    let Picture { width, height, .. } = picture;
-    if width == 0 || height == 0 {
-        1
-    } else if width > 65536 || height > 65536 {
-        2
-    } else if bytes < 8 * picture.blocks() {
-        3
-    } else if !picture.blocks_across().is_power_of_two() || !picture.blocks_down().is_power_of_two()
-    {
-        5
-    } else if x >= width || y >= height {
-        6
-    } else {
-        0
-    }
-}
-
-/// Where the original refuses the same data and sizes in its own words, it must do so; and where only the texel is at fault, it must
-/// decode the picture. It is not asked of sides that it is no oracle for, nor at 4bpp of data that passes its test of half the need.
-fn ask_original(picture: Picture, data: &[u8], number: u32) {
-    let Picture {
-        width,
-        height,
-        is2bpp,
-    } = picture;
-    let expected = match number {
-        3 if is2bpp || data.len() < 4 * picture.blocks() => Err("The data buffer is too small!"),
-        5 => Err("The number of blocks of each side must be a power of 2!"),
-        6 => Ok(()),
-        _ => return,
-    };
-    // It looks at the data before the image, which may then be empty.
-    let words = if number == 3 { 0 } else { width * height };
-    let answer = decode_pvrtc(data, width, height, &mut vec![0; words], is2bpp);
-    assert_eq!(answer, expected, "{}", picture.name());
 }

@@ -1,0 +1,165 @@
+// The families of inputs that are compared.
+
+use crate::{Comparison, Shape};
+
+pub const ALL: [(&str, fn(&mut Comparison, usize)); 9] = [
+    ("sizes 1 to 40 by 1 to 40", small_sizes),
+    ("grids to 64 by 64 blocks, clipped", grids),
+    ("data about 4n and 8n bytes, words about width x height", lengths),
+    ("every 16-bit value of A and of B", colours),
+    ("every weight mode, structured words", modes),
+    ("thin pictures to a side of 65,536", thin),
+    ("sides that are refused", sides),
+    ("a million damaged files", damaged_files),
+    ("the largest picture", largest_picture),
+];
+
+// A word of a kind: drawn; all of one mode; of few bits; with a punch-through or a fill that the drawn words seldom have.
+fn word(c: &mut Comparison, kind: usize) -> u64 {
+    let drawn = c.draw();
+    match kind % 6 {
+        0 => drawn,
+        1 => drawn | 1 << 32,
+        2 => drawn & !(1 << 32),
+        3 => drawn & c.draw() & c.draw() | (drawn & 1) << 32,
+        4 => drawn | 1 << 32 | 1,
+        _ => (drawn | 1 << 32 | 1 << 20 | 1) ^ (c.draw() & 1) << 20,
+    }
+}
+
+fn words(c: &mut Comparison, kind: usize, blocks: usize) -> Vec<u8> {
+    (0..blocks).flat_map(|_| word(c, kind).to_le_bytes()).collect()
+}
+
+// A picture of just the bytes and the words that it needs, and `more` words after.
+fn whole(c: &mut Comparison, s: Shape, kind: usize, more: usize) {
+    let data = words(c, kind, s.need() / 8);
+    c.picture(&data, s, s.width * s.height + more);
+}
+
+fn small_sizes(c: &mut Comparison, _: usize) {
+    for is2bpp in [false, true] {
+        for width in 1..=40 {
+            for height in 1..=40 {
+                for kind in 0..6 {
+                    whole(c, Shape { width, height, is2bpp }, kind, kind);
+                }
+            }
+        }
+    }
+}
+
+fn grids(c: &mut Comparison, _: usize) {
+    for is2bpp in [false, true] {
+        let block_width = if is2bpp { 8 } else { 4 };
+        for (across, down) in (0..49).map(|i| (1 << (i / 7), 1 << (i % 7))) {
+            for (cut_x, cut_y) in [(0, 0), (1, 0), (0, 3), (block_width - 1, 2)] {
+                let s = Shape { width: across * block_width - cut_x, height: down * 4 - cut_y, is2bpp };
+                let kind = c.draw() as usize;
+                whole(c, s, kind, 1);
+            }
+        }
+    }
+}
+
+fn lengths(c: &mut Comparison, _: usize) {
+    for is2bpp in [false, true] {
+        for (width, height) in [(1, 1), (4, 4), (8, 8), (9, 4), (16, 8), (12, 12), (31, 17), (64, 4), (5, 16)] {
+            let s = Shape { width, height, is2bpp };
+            let (need, place) = (s.need(), width * height);
+            for len in (need / 2 - 2..need / 2 + 3).chain(need.saturating_sub(9)..need + 10) {
+                for room in [0, 1, place - 1, place, place + 1, place + 7] {
+                    let kind = c.draw() as usize;
+                    let mut data = words(c, kind, need / 8 + 2);
+                    data.truncate(len);
+                    c.picture(&data, s, room);
+                }
+            }
+        }
+    }
+}
+
+fn colours(c: &mut Comparison, _: usize) {
+    for is2bpp in [false, true] {
+        for value in 0..65536 {
+            for shift in [32, 48] {
+                let drawn = c.draw() & !(0xffff << shift) | value << shift;
+                let s = Shape { width: if is2bpp { 8 } else { 4 }, height: 4, is2bpp };
+                c.picture(&drawn.to_le_bytes(), s, s.width * s.height);
+            }
+        }
+    }
+}
+
+fn modes(c: &mut Comparison, _: usize) {
+    for is2bpp in [false, true] {
+        for ground in [0, 0x5555_5555, 0xaaaa_aaaa, 0xffff_ffff, 0x0f0f_0f0f, 0x1234_5678] {
+            for flags in 0..8_u64 {
+                for bit in 0..32 {
+                    let modulation = (ground ^ 1 << bit) & !0x0010_0001 | flags & 1 | (flags >> 1 & 1) << 20;
+                    let first = c.draw() << 32 & !(1 << 32) | (flags >> 2) << 32 | modulation;
+                    let mut data = first.to_le_bytes().to_vec();
+                    data.extend(words(c, bit, 3));
+                    let s = Shape { width: if is2bpp { 16 } else { 8 }, height: 8, is2bpp };
+                    c.picture(&data, s, s.width * s.height);
+                }
+            }
+        }
+    }
+}
+
+fn thin(c: &mut Comparison, _: usize) {
+    for is2bpp in [false, true] {
+        for long in [1024, 4095, 32768, 65535, 65536] {
+            for short in [1, 4, 7] {
+                whole(c, Shape { width: long, height: short, is2bpp }, short, 1);
+                whole(c, Shape { width: short, height: long, is2bpp }, short, 1);
+            }
+        }
+    }
+}
+
+fn sides(c: &mut Comparison, _: usize) {
+    let all = [0, 1, 4, 65535, 65536, 65537, 1 << 32, (1 << 32) + 4, usize::MAX / 8, usize::MAX];
+    for is2bpp in [false, true] {
+        for (width, height) in all.iter().flat_map(|w| all.iter().map(move |h| (*w, *h))) {
+            let refused_by_side = width == 0 || height == 0 || width > 65536 || height > 65536;
+            for len in if refused_by_side { [0, 8, 64] } else { [0, 1, 7] } {
+                let data = words(c, 0, 8);
+                c.picture(&data[..len], Shape { width, height, is2bpp }, 16);
+            }
+        }
+    }
+}
+
+// Files of a small plate with up to four bytes changed, cut short in places.
+fn damaged_files(c: &mut Comparison, _: usize) {
+    for turn in 0..1_000_000 {
+        let drawn = c.draw();
+        let (bits, side_x, side_y) = (drawn & 1, 1 + (drawn >> 1) % 16, 1 + (drawn >> 5) % 16);
+        let metadata = if drawn >> 9 & 3 == 0 { drawn >> 11 & 15 } else { 0 };
+        let mut file = vec![0x50, 0x56, 0x52, 3, 0, 0, 0, 0];
+        file.extend((2 * bits + (drawn >> 15 & 1)).to_le_bytes());
+        for field in [0, 0, side_y, side_x, 1, 1, 1, 1, metadata] {
+            file.extend((field as u32).to_le_bytes());
+        }
+        let s = Shape { width: side_x as usize, height: side_y as usize, is2bpp: bits == 0 };
+        file.extend(std::iter::repeat(0x6d).take(metadata as usize));
+        let kind = drawn as usize >> 16;
+        file.extend(words(c, kind, s.need() / 8));
+        for _ in 0..c.draw() % 5 {
+            let at = c.draw() as usize % if turn % 2 == 0 { 52 } else { file.len() };
+            file[at] = if c.draw() % 2 == 0 { c.draw() as u8 } else { file[at] ^ 1 << (c.draw() % 8) };
+        }
+        if c.draw() % 8 == 0 {
+            file.truncate(c.draw() as usize % (file.len() + 1));
+        }
+        c.file(&file);
+    }
+}
+
+fn largest_picture(c: &mut Comparison, side: usize) {
+    for is2bpp in [false, true] {
+        whole(c, Shape { width: side, height: side, is2bpp }, 0, 0);
+    }
+}

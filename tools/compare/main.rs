@@ -1,0 +1,231 @@
+// Compares the calls of include/plate.h with the Rust original: refusals, texels, and the lent words that were not to be written.
+//
+// Our calls are lent memory that ends where a page may not be touched, with words before it that must stay. A picture is decoded by both;
+// one of its rows and one of its texels are then asked for by the other calls. Where the original is no oracle (document 01's domain),
+// the answer is held to document 01's table of refusals.
+
+extern crate color;
+
+#[allow(dead_code)]
+mod pvrtc {
+    include!(concat!(env!("ORIGINAL"), "/pvrtc.rs"));
+}
+
+mod families;
+mod guarded;
+
+use guarded::Guarded;
+
+extern "C" {
+    fn plate_texel(data: *const u8, len: usize, width: u64, height: u64, depth: u32, x: u64, y: u64) -> u64;
+    fn plate_row(data: *const u8, len: usize, width: u64, height: u64, depth: u32, y: u64, row: *mut u32, room: usize) -> u64;
+    fn plate_picture(data: *const u8, len: usize, width: u64, height: u64, depth: u32, image: *mut u32, room: usize) -> u64;
+    fn plate_header(file: *const u8, len: usize, field: u32) -> u64;
+}
+
+// Words before a lent buffer that must stay.
+const BEFORE: usize = 64;
+
+// What a lent word holds before a call: no texel is likely to be it.
+fn old_word(i: usize) -> u32 {
+    (i as u32).wrapping_mul(0x9e37_79b9) ^ 0x5a5a_5a5a
+}
+
+// A picture's size and depth.
+#[derive(Clone, Copy)]
+pub struct Shape {
+    pub width: usize,
+    pub height: usize,
+    pub is2bpp: bool,
+}
+
+impl Shape {
+    pub fn blocks(self) -> (usize, usize) {
+        (self.width.div_ceil(if self.is2bpp { 8 } else { 4 }), self.height.div_ceil(4))
+    }
+
+    // The bytes that the picture needs.
+    pub fn need(self) -> usize {
+        let (across, down) = self.blocks();
+        8 * across * down
+    }
+
+    // Document 01's number for a call that writes a picture.
+    fn refusal(self, len: usize, room: usize) -> u64 {
+        let (across, down) = self.blocks();
+        if self.width == 0 || self.height == 0 {
+            1
+        } else if self.width > 65536 || self.height > 65536 {
+            2
+        } else if len < self.need() {
+            3
+        } else if room < self.width * self.height {
+            4
+        } else if !across.is_power_of_two() || !down.is_power_of_two() {
+            5
+        } else {
+            0
+        }
+    }
+
+    // Whether the original is the oracle.
+    fn in_domain(self, len: usize) -> bool {
+        let half_the_need = !self.is2bpp && (self.need() / 2..self.need()).contains(&len);
+        (1..=65536).contains(&self.width) && (1..=65536).contains(&self.height) && !half_the_need
+    }
+}
+
+pub struct Comparison {
+    data: Guarded,
+    image: Guarded,
+    row: Guarded,
+    theirs: Vec<u32>,
+    pub cases: u64,
+    pub texels: u64,
+    pub refused: u64,
+    pub by_original: u64,
+    smallest: Option<(usize, String)>,
+    differences: u64,
+    pub state: u64,
+}
+
+impl Comparison {
+    pub fn draw(&mut self) -> u64 {
+        self.state ^= self.state << 13;
+        self.state ^= self.state >> 7;
+        self.state ^= self.state << 17;
+        self.state
+    }
+
+    // Keeps the smallest case that differs.
+    fn differs(&mut self, size: usize, what: String) {
+        self.differences += 1;
+        if self.smallest.as_ref().map_or(true, |(least, _)| size < *least) {
+            self.smallest = Some((size, what));
+        }
+    }
+
+    // What the original answers and leaves in `theirs`, as document 01's number.
+    fn original(&mut self, data: &[u8], s: Shape) -> u64 {
+        self.by_original += 1;
+        match pvrtc::decode_pvrtc(data, s.width, s.height, &mut self.theirs, s.is2bpp) {
+            Ok(()) => 0,
+            Err("The data buffer is too small!") => 3,
+            Err("The image buffer is too small!") => 4,
+            Err("The number of blocks of each side must be a power of 2!") => 5,
+            Err(other) => panic!("the original says: {other}"),
+        }
+    }
+
+    // One picture of `data`, into `room` lent words, and a row and a texel of it.
+    pub fn picture(&mut self, data: &[u8], s: Shape, room: usize) {
+        self.cases += 1;
+        self.theirs.clear();
+        self.theirs.extend((0..room).map(old_word));
+        let expected = if s.in_domain(data.len()) { self.original(data, s) } else { s.refusal(data.len(), room) };
+        assert_eq!(expected, s.refusal(data.len(), room), "document 01's table and the original disagree");
+
+        let lent = self.image.words(BEFORE + room);
+        (0..BEFORE + room).for_each(|i| lent[i] = old_word(i.wrapping_sub(BEFORE)));
+        let lent_data = self.data.bytes(data.len());
+        lent_data.copy_from_slice(data);
+        let (at, w, h, depth) = (lent_data.as_ptr(), s.width as u64, s.height as u64, s.is2bpp as u32);
+        let answer = unsafe { plate_picture(at, data.len(), w, h, depth, lent[BEFORE..].as_mut_ptr(), room) };
+
+        let what = |call: &str| format!("{call}: {} x {}, {} bits, {} bytes, {room} words", w, h, if s.is2bpp { 2 } else { 4 }, data.len());
+        let before_stays = (0..BEFORE).all(|i| lent[i] == old_word(i.wrapping_sub(BEFORE)));
+        if answer != expected || !before_stays || lent[BEFORE..] != self.theirs[..] {
+            self.differs(data.len() + room, what(&format!("picture answers {answer}, expected {expected}")));
+        }
+        if expected == 0 {
+            self.texels += w * h;
+            self.row_and_texel(at, data.len(), s);
+        } else {
+            self.refused += 1;
+        }
+    }
+
+    // A row and a texel of the picture in `theirs`.
+    fn row_and_texel(&mut self, at: *const u8, len: usize, s: Shape) {
+        let (w, h, depth) = (s.width as u64, s.height as u64, s.is2bpp as u32);
+        let (x, y, more) = (self.draw() as usize % s.width, self.draw() as usize % s.height, self.draw() as usize % 3);
+        let room = s.width + more;
+        let lent = self.row.words(BEFORE + room);
+        (0..BEFORE + room).for_each(|i| lent[i] = old_word(i.wrapping_sub(BEFORE)));
+        let answer = unsafe { plate_row(at, len, w, h, depth, y as u64, lent[BEFORE..].as_mut_ptr(), room) };
+        let rest_stays = (0..BEFORE).chain(BEFORE + s.width..BEFORE + room).all(|i| lent[i] == old_word(i.wrapping_sub(BEFORE)));
+        let right = lent[BEFORE..][..s.width] == self.theirs[y * s.width..][..s.width];
+        let texel = unsafe { plate_texel(at, len, w, h, depth, x as u64, y as u64) };
+        let same = texel == self.theirs[y * s.width + x] as u64;
+        if answer != 0 || !rest_stays || !right {
+            self.differs(len + room, format!("row {y} answers {answer}: {w} x {h}, depth {depth}, {len} bytes"));
+        }
+        if !same {
+            self.differs(len + room, format!("texel {x} {y} is {texel:x}: {w} x {h}, depth {depth}, {len} bytes"));
+        }
+        self.texels += w + 1;
+    }
+
+    // A damaged file by its header, then its picture if that is small: every answer has a known number.
+    pub fn file(&mut self, file: &[u8]) {
+        let lent = self.data.bytes(file.len());
+        lent.copy_from_slice(file);
+        let at = lent.as_ptr();
+        let field = |n: u32| unsafe { plate_header(at, file.len(), n) };
+        let fields: Vec<u64> = (0..6).map(field).collect();
+        let known = if fields[0] == 0 {
+            matches!(fields[3], 2 | 4) && fields[4] >= 52 && fields[4] <= 52 + u32::MAX as u64
+        } else {
+            (11..=14).contains(&fields[0]) && fields[1..5] == [0; 4]
+        };
+        if !known || fields[5] != 0 {
+            self.differs(file.len(), format!("header answers {fields:?} for {file:02x?}"));
+        }
+        let shape = Shape { width: fields[1] as usize, height: fields[2] as usize, is2bpp: fields[3] == 2 };
+        let data = file.get(fields[4] as usize..).unwrap_or(&[]);
+        if fields[0] != 0 {
+            self.cases += 1;
+            self.refused += 1;
+        } else {
+            let small = shape.width.saturating_mul(shape.height) <= 4096;
+            let room = if small { shape.width * shape.height } else { 16 };
+            self.picture(data, shape, room);
+        }
+    }
+}
+
+fn main() {
+    let largest: usize = std::env::args().nth(1).and_then(|n| n.parse().ok()).expect("the side of the largest picture");
+    let room = 4 * (largest * largest).max(65536 * 64) + 4096;
+    let mut c = Comparison {
+        data: Guarded::new(room / 4),
+        image: Guarded::new(room),
+        row: Guarded::new(4 * (65536 + 4096)),
+        theirs: Vec::new(),
+        cases: 0,
+        texels: 0,
+        refused: 0,
+        by_original: 0,
+        smallest: None,
+        differences: 0,
+        state: 0x2545_f491_4f6c_dd1d,
+    };
+    println!("| family | cases | answered by the original | refused | texels compared | seconds |");
+    println!("|---|---|---|---|---|---|");
+    let start = std::time::Instant::now();
+    for (name, family) in families::ALL {
+        eprintln!("compare: {name}");
+        let (cases, texels, refused, asked, since) = (c.cases, c.texels, c.refused, c.by_original, std::time::Instant::now());
+        family(&mut c, largest);
+        let seconds = since.elapsed().as_secs_f64();
+        println!("| {name} | {} | {} | {} | {} | {seconds:.1} |", c.cases - cases, c.by_original - asked, c.refused - refused, c.texels - texels);
+    }
+    println!("| all | {} | {} | {} | {} | {:.1} |", c.cases, c.by_original, c.refused, c.texels, start.elapsed().as_secs_f64());
+    match c.smallest {
+        None => println!("no difference"),
+        Some((_, what)) => {
+            println!("{} differences; the smallest is {what}", c.differences);
+            std::process::exit(1);
+        }
+    }
+}
