@@ -64,7 +64,7 @@ int main(int argc, char **argv)
 
     /* The picture, and a sum of its words. */
     size_t room = (size_t)(width * height);
-    uint32_t *image = calloc(room, sizeof *image);
+    uint32_t *image = calloc(room + 1, sizeof *image);
     uint64_t sum = 0;
     refused = image ? plate_picture(data, left, width, height, depth, image, room) : 4;
     for (size_t i = 0; !refused && i < room; i++)

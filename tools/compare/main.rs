@@ -194,7 +194,24 @@ impl Comparison {
     }
 }
 
+// Inputs off the original's domain: what it does there, and what ours answers. docs/DIFFERENCES.md says why.
+fn off_the_domain() {
+    std::panic::set_hook(Box::new(|_| {}));
+    println!("| off the domain | the original | ours |");
+    println!("|---|---|---|");
+    for (width, height, len, room) in [(4, 4, 4, 16), (4, 4, 7, 16), (4, 4, 4, 15), (12, 4, 12, 48), (0, 4, 0, 0), (4, 0, 8, 0), (65537, 1, 131080, 65537), (131069, 1, 262144, 131069)] {
+        let (data, mut image) = (vec![0; len], vec![0; room]);
+        let theirs = std::panic::catch_unwind(|| pvrtc::decode_pvrtc(&data, width, height, &mut vec![0; room], false));
+        let said = theirs.map_or("panics".to_string(), |answer| format!("{answer:?}"));
+        let ours = unsafe { plate_picture(data.as_ptr(), len, width as u64, height as u64, 0, image.as_mut_ptr(), room) };
+        println!("| {width} × {height} at 4bpp, {len} bytes, {room} words | {said} | {ours} |");
+    }
+    let _ = std::panic::take_hook();
+    println!();
+}
+
 fn main() {
+    off_the_domain();
     let largest: usize = std::env::args().nth(1).and_then(|n| n.parse().ok()).expect("the side of the largest picture");
     let room = 4 * (largest * largest).max(65536 * 64) + 4096;
     let mut c = Comparison {
