@@ -10,7 +10,7 @@ use borrow.Author.Tests.{ltb-false, le-ltb, lt-leb}
 use Rattle.pvr.specs.declared.Header.{Header}
 use Rattle.pvr.specs.Header.{u32At, version, headerSize, pixelFormat, widthField, heightField, payloadOffset, shortHeader, notPvr, notOnePlate, headerRefusal, HeaderRead}
 use Rattle.pvr.specs.NoEffect.{hasNoEffect, SameHeader}
-use Rattle.pvr.proofs.Order.{holds-here}
+use Rattle.facts.proofs.Order.{holds-here}
 use Rattle.pvr.proofs.Starts.{same-start}
 use Rattle.pvr.proofs.Unique.{one-header}
 

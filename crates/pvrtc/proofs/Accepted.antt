@@ -18,7 +18,7 @@ use Rattle.texel.proofs.Shares.{half-low}
 use Rattle.pvrtc.specs.declared.Call.{Call}
 use Rattle.pvrtc.specs.declared.Call.the-variants as call
 use Rattle.pvrtc.specs.declared.Picture.{Picture}
-use Rattle.pvrtc.proofs.Order.{says-none}
+use Rattle.facts.proofs.Order.{holds-later, none-left}
 use Rattle.pvrtc.specs.Refusals.{across, down, need, zeroSide, largeSide, shortData, shortImage, notPower, outside, checks}
 
 -- where neither of two tests holds, the first does not, and the second does not
@@ -130,7 +130,9 @@ block-roomy p room e = ltb-false room (p .width * p .height) e
 
 -- a call none of whose refusals holds says none
 pub passed : (p : Picture) (c : Call) (len : ℕ) → Accepted p c len → firstOf (checks p c len) ≡ 0
-passed p c len a = sym (says-none _ _ _ _ _ _ (a .sides) (a .small) (a .enough) (a .roomy) (a .powers) (a .inside))
+passed p c len a =
+    sym (holds-later _ _ _ (a .sides) (holds-later _ _ _ (a .small) (holds-later _ _ _ (a .enough)
+    (holds-later _ _ _ (a .roomy) (holds-later _ _ _ (a .powers) (holds-later _ _ _ (a .inside) none-left))))))
 
 -- a texel of the picture is accepted where its sizes are and the data is long enough
 pub inside-accepted : (p : Picture) (x y len : ℕ) → zeroSide p ≡ false → largeSide p ≡ false → shortData p len ≡ false → notPower p ≡ false

@@ -2,6 +2,5 @@ pub mod Accepted
 pub mod Agree
 pub mod InBlock
 pub mod InRow
-pub mod Order
 pub mod Past
 pub mod Unique

@@ -8,7 +8,7 @@ use borrow.Author.Needs.{needs}
 use borrow.Author.Tests.{lt-ltb, le-ltb}
 use Rattle.pvr.specs.Header.{headerSize, headerRefusal}
 use Rattle.pvr.proofs.Answers.{by-plate, by-refusal}
-use Rattle.pvr.proofs.Order.{holds-here, holds-later, none-left}
+use Rattle.facts.proofs.Order.{holds-here, holds-later, none-left}
 use Rattle.pvr.proofs.read_header.Statement.{statement}
 use Rattle.pvr.proofs.read_header.Tie as tie
 

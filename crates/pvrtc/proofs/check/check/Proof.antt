@@ -2,7 +2,7 @@
 use mathlib.Core.Path.{sym, _∙_}
 use borrow.Author.Needs.{needs}
 use borrow.Author.Tests.{lt-ltb, le-ltb}
-use Rattle.pvrtc.proofs.Order.{says-1, says-2, says-3, says-4, says-5, says-6, says-none}
+use Rattle.facts.proofs.Order.{holds-here, holds-later, none-left}
 use Rattle.pvrtc.proofs.check.check.Statement.{statement}
 use Rattle.pvrtc.proofs.check.check.Tie as tie
 
@@ -11,73 +11,67 @@ has-zero-side-requires c κs = search needs
 
 returns : tie.Need-returns
 returns c =
-    says-1 _ _ _ _ _ _
-    (sym (c .before .has-zero-side .ensures) ∙ c .if1 .taken)
+    holds-here _ _ _ (sym (c .before .has-zero-side .ensures) ∙ c .if1 .taken)
 
 has-large-side-requires : tie.Need-has-large-side-requires
 has-large-side-requires c κs = search needs
 
 returns-2 : tie.Need-returns-2
 returns-2 c =
-    says-2 _ _ _ _ _ _
-    (sym (c .before .before .before .has-zero-side .ensures) ∙ c .before .before .if1 .left)
-    (sym (c .before .has-large-side .ensures) ∙ c .if2 .taken)
+    holds-later _ _ _ (sym (c .before .before .before .has-zero-side .ensures) ∙ c .before .before .if1 .left)
+    (holds-here _ _ _ (sym (c .before .has-large-side .ensures) ∙ c .if2 .taken))
 
 need-of-requires : tie.Need-need-of-requires
 need-of-requires c κs = sym (c .before .has-large-side .ensures) ∙ c .if2 .left
 
 returns-3 : tie.Need-returns-3
 returns-3 c =
-    says-3 _ _ _ _ _ _
-    (sym (c .before .before .before .before .before .has-zero-side .ensures) ∙ c .before .before .before .before .if1 .left)
-    (sym (c .before .before .before .has-large-side .ensures) ∙ c .before .before .if2 .left)
-    (lt-ltb (c .before .before .before .before .before .before .args .len) _ (rw (← c .before .need-of .ensures) (c .if3 .taken)))
+    holds-later _ _ _ (sym (c .before .before .before .before .before .has-zero-side .ensures) ∙ c .before .before .before .before .if1 .left)
+    (holds-later _ _ _ (sym (c .before .before .before .has-large-side .ensures) ∙ c .before .before .if2 .left)
+    (holds-here _ _ _ (lt-ltb (c .before .before .before .before .before .before .args .len) _ (rw (← c .before .need-of .ensures) (c .if3 .taken)))))
 
 has-short-image-requires : tie.Need-has-short-image-requires
 has-short-image-requires c κs = sym (c .before .before .before .has-large-side .ensures) ∙ c .before .before .if2 .left
 
 returns-4 : tie.Need-returns-4
 returns-4 c =
-    says-4 _ _ _ _ _ _
-    (sym (c .before .before .before .before .before .before .before .has-zero-side .ensures) ∙ c .before .before .before .before .before .before .if1 .left)
-    (sym (c .before .before .before .before .before .has-large-side .ensures) ∙ c .before .before .before .before .if2 .left)
-    (le-ltb (c .before .before .before .before .before .before .before .before .args .len) _ (rw (← c .before .before .before .need-of .ensures) (c .before .before .if3 .left)))
-    (sym (c .before .has-short-image .ensures) ∙ c .if4 .taken)
+    holds-later _ _ _ (sym (c .before .before .before .before .before .before .before .has-zero-side .ensures) ∙ c .before .before .before .before .before .before .if1 .left)
+    (holds-later _ _ _ (sym (c .before .before .before .before .before .has-large-side .ensures) ∙ c .before .before .before .before .if2 .left)
+    (holds-later _ _ _ (le-ltb (c .before .before .before .before .before .before .before .before .args .len) _ (rw (← c .before .before .before .need-of .ensures) (c .before .before .if3 .left)))
+    (holds-here _ _ _ (sym (c .before .has-short-image .ensures) ∙ c .if4 .taken))))
 
 has-no-power-requires : tie.Need-has-no-power-requires
 has-no-power-requires c κs = search needs
 
 returns-5 : tie.Need-returns-5
 returns-5 c =
-    says-5 _ _ _ _ _ _
-    (sym (c .before .before .before .before .before .before .before .before .before .has-zero-side .ensures) ∙ c .before .before .before .before .before .before .before .before .if1 .left)
-    (sym (c .before .before .before .before .before .before .before .has-large-side .ensures) ∙ c .before .before .before .before .before .before .if2 .left)
-    (le-ltb (c .before .before .before .before .before .before .before .before .before .before .args .len) _ (rw (← c .before .before .before .before .before .need-of .ensures) (c .before .before .before .before .if3 .left)))
-    (sym (c .before .before .before .has-short-image .ensures) ∙ c .before .before .if4 .left)
-    (sym (c .before .has-no-power .ensures) ∙ c .if5 .taken)
+    holds-later _ _ _ (sym (c .before .before .before .before .before .before .before .before .before .has-zero-side .ensures) ∙ c .before .before .before .before .before .before .before .before .if1 .left)
+    (holds-later _ _ _ (sym (c .before .before .before .before .before .before .before .has-large-side .ensures) ∙ c .before .before .before .before .before .before .if2 .left)
+    (holds-later _ _ _ (le-ltb (c .before .before .before .before .before .before .before .before .before .before .args .len) _ (rw (← c .before .before .before .before .before .need-of .ensures) (c .before .before .before .before .if3 .left)))
+    (holds-later _ _ _ (sym (c .before .before .before .has-short-image .ensures) ∙ c .before .before .if4 .left)
+    (holds-here _ _ _ (sym (c .before .has-no-power .ensures) ∙ c .if5 .taken)))))
 
 is-outside-requires : tie.Need-is-outside-requires
 is-outside-requires c κs = search needs
 
 returns-6 : tie.Need-returns-6
 returns-6 c =
-    says-6 _ _ _ _ _ _
-    (sym (c .before .before .before .before .before .before .before .before .before .before .before .has-zero-side .ensures) ∙ c .before .before .before .before .before .before .before .before .before .before .if1 .left)
-    (sym (c .before .before .before .before .before .before .before .before .before .has-large-side .ensures) ∙ c .before .before .before .before .before .before .before .before .if2 .left)
-    (le-ltb (c .before .before .before .before .before .before .before .before .before .before .before .before .args .len) _ (rw (← c .before .before .before .before .before .before .before .need-of .ensures) (c .before .before .before .before .before .before .if3 .left)))
-    (sym (c .before .before .before .before .before .has-short-image .ensures) ∙ c .before .before .before .before .if4 .left)
-    (sym (c .before .before .before .has-no-power .ensures) ∙ c .before .before .if5 .left)
-    (sym (c .before .is-outside .ensures) ∙ c .if6 .taken)
+    holds-later _ _ _ (sym (c .before .before .before .before .before .before .before .before .before .before .before .has-zero-side .ensures) ∙ c .before .before .before .before .before .before .before .before .before .before .if1 .left)
+    (holds-later _ _ _ (sym (c .before .before .before .before .before .before .before .before .before .has-large-side .ensures) ∙ c .before .before .before .before .before .before .before .before .if2 .left)
+    (holds-later _ _ _ (le-ltb (c .before .before .before .before .before .before .before .before .before .before .before .before .args .len) _ (rw (← c .before .before .before .before .before .before .before .need-of .ensures) (c .before .before .before .before .before .before .if3 .left)))
+    (holds-later _ _ _ (sym (c .before .before .before .before .before .has-short-image .ensures) ∙ c .before .before .before .before .if4 .left)
+    (holds-later _ _ _ (sym (c .before .before .before .has-no-power .ensures) ∙ c .before .before .if5 .left)
+    (holds-here _ _ _ (sym (c .before .is-outside .ensures) ∙ c .if6 .taken))))))
 
 returns-7 : tie.Need-returns-7
 returns-7 c =
-    says-none _ _ _ _ _ _
-    (sym (c .before .before .before .before .before .before .before .before .before .before .before .has-zero-side .ensures) ∙ c .before .before .before .before .before .before .before .before .before .before .if1 .left)
-    (sym (c .before .before .before .before .before .before .before .before .before .has-large-side .ensures) ∙ c .before .before .before .before .before .before .before .before .if2 .left)
-    (le-ltb (c .before .before .before .before .before .before .before .before .before .before .before .before .args .len) _ (rw (← c .before .before .before .before .before .before .before .need-of .ensures) (c .before .before .before .before .before .before .if3 .left)))
-    (sym (c .before .before .before .before .before .has-short-image .ensures) ∙ c .before .before .before .before .if4 .left)
-    (sym (c .before .before .before .has-no-power .ensures) ∙ c .before .before .if5 .left)
-    (sym (c .before .is-outside .ensures) ∙ c .if6 .left)
+    holds-later _ _ _ (sym (c .before .before .before .before .before .before .before .before .before .before .before .has-zero-side .ensures) ∙ c .before .before .before .before .before .before .before .before .before .before .if1 .left)
+    (holds-later _ _ _ (sym (c .before .before .before .before .before .before .before .before .before .has-large-side .ensures) ∙ c .before .before .before .before .before .before .before .before .if2 .left)
+    (holds-later _ _ _ (le-ltb (c .before .before .before .before .before .before .before .before .before .before .before .before .args .len) _ (rw (← c .before .before .before .before .before .before .before .need-of .ensures) (c .before .before .before .before .before .before .if3 .left)))
+    (holds-later _ _ _ (sym (c .before .before .before .before .before .has-short-image .ensures) ∙ c .before .before .before .before .if4 .left)
+    (holds-later _ _ _ (sym (c .before .before .before .has-no-power .ensures) ∙ c .before .before .if5 .left)
+    (holds-later _ _ _ (sym (c .before .is-outside .ensures) ∙ c .if6 .left)
+    none-left)))))
 
 pub check-spec : {M : Type 1} → statement M
 check-spec =
