@@ -6,22 +6,12 @@
 
 extern crate color;
 
-#[allow(dead_code)]
-mod pvrtc {
-    include!(concat!(env!("ORIGINAL"), "/pvrtc.rs"));
-}
-
+mod both;
 mod families;
 mod guarded;
 
+use both::{original, plate_header, plate_picture, plate_row, plate_texel};
 use guarded::Guarded;
-
-extern "C" {
-    fn plate_texel(data: *const u8, len: usize, width: u64, height: u64, depth: u32, x: u64, y: u64) -> u64;
-    fn plate_row(data: *const u8, len: usize, width: u64, height: u64, depth: u32, y: u64, row: *mut u32, room: usize) -> u64;
-    fn plate_picture(data: *const u8, len: usize, width: u64, height: u64, depth: u32, image: *mut u32, room: usize) -> u64;
-    fn plate_header(file: *const u8, len: usize, field: u32) -> u64;
-}
 
 // Words before a lent buffer that must stay.
 const BEFORE: usize = 64;
@@ -91,10 +81,7 @@ pub struct Comparison {
 
 impl Comparison {
     pub fn draw(&mut self) -> u64 {
-        self.state ^= self.state << 13;
-        self.state ^= self.state >> 7;
-        self.state ^= self.state << 17;
-        self.state
+        both::draw(&mut self.state)
     }
 
     // Keeps the smallest case that differs.
@@ -108,7 +95,7 @@ impl Comparison {
     // What the original answers and leaves in `theirs`, as document 01's number.
     fn original(&mut self, data: &[u8], s: Shape) -> u64 {
         self.by_original += 1;
-        match pvrtc::decode_pvrtc(data, s.width, s.height, &mut self.theirs, s.is2bpp) {
+        match original::decode_pvrtc(data, s.width, s.height, &mut self.theirs, s.is2bpp) {
             Ok(()) => 0,
             Err("The data buffer is too small!") => 3,
             Err("The image buffer is too small!") => 4,
@@ -201,7 +188,7 @@ fn off_the_domain() {
     println!("|---|---|---|");
     for (width, height, len, room) in [(4, 4, 4, 16), (4, 4, 7, 16), (4, 4, 4, 15), (12, 4, 12, 48), (0, 4, 0, 0), (4, 0, 8, 0), (65537, 1, 131080, 65537), (131069, 1, 262144, 131069)] {
         let (data, mut image) = (vec![0; len], vec![0; room]);
-        let theirs = std::panic::catch_unwind(|| pvrtc::decode_pvrtc(&data, width, height, &mut vec![0; room], false));
+        let theirs = std::panic::catch_unwind(|| original::decode_pvrtc(&data, width, height, &mut vec![0; room], false));
         let said = theirs.map_or("panics".to_string(), |answer| format!("{answer:?}"));
         let ours = unsafe { plate_picture(data.as_ptr(), len, width as u64, height as u64, 0, image.as_mut_ptr(), room) };
         println!("| {width} × {height} at 4bpp, {len} bytes, {room} words | {said} | {ours} |");

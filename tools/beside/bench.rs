@@ -5,17 +5,12 @@
 
 extern crate color;
 
-#[allow(dead_code)]
-mod pvrtc {
-    include!(concat!(env!("ORIGINAL"), "/pvrtc.rs"));
-}
+mod both;
 
+use both::{draw, original, plate_picture, plate_row, plate_texel};
 use std::hint::black_box;
 
 extern "C" {
-    fn plate_texel(data: *const u8, len: usize, width: u64, height: u64, depth: u32, x: u64, y: u64) -> u64;
-    fn plate_row(data: *const u8, len: usize, width: u64, height: u64, depth: u32, y: u64, row: *mut u32, room: usize) -> u64;
-    fn plate_picture(data: *const u8, len: usize, width: u64, height: u64, depth: u32, image: *mut u32, room: usize) -> u64;
     fn clock_gettime(clock: i32, time: *mut [i64; 2]) -> i32;
 }
 
@@ -48,13 +43,6 @@ fn best_of_seven(a: &mut dyn FnMut(), b: &mut dyn FnMut()) -> (f64, f64) {
     best
 }
 
-fn draw(state: &mut u64) -> u64 {
-    *state ^= *state << 13;
-    *state ^= *state >> 7;
-    *state ^= *state << 17;
-    *state
-}
-
 // Words as drawn.
 fn random_words(blocks: usize) -> Vec<u8> {
     let mut state = 0x9e37_79b9_7f4a_7c15;
@@ -81,7 +69,7 @@ struct Picture<'a> {
 
 impl Picture<'_> {
     fn original(&self, image: &mut [u32]) {
-        pvrtc::decode_pvrtc(self.data, self.width, self.height, image, self.is2bpp).expect("the original refuses");
+        original::decode_pvrtc(self.data, self.width, self.height, image, self.is2bpp).expect("the original refuses");
     }
 
     fn ours(&self, image: &mut [u32]) {

@@ -1,0 +1,251 @@
+-- Laws of four numbers as the 16-bit lanes of one: masks and shifts act on each lane apart. Assumes nothing.
+use mathlib.Core.Path.{_≡_, refl, ap, ap₂, _∙_}
+use mathlib.Core.Bool.{Bool, true, false, cond}
+use Prim.Native.Nat.{ℕ, _+_, _*_, _/_, _%_, _-_, _≤_, _<_}
+use native.Mathlib.Nat.{add-mul, mul-add, mul-assoc, mul-le-mul, mul-le-mul-right}
+use native.Mathlib.Omega.{arith}
+use lib.Bits.{bitAnd, and-block, and-high, and-le-l, and-le-r, and-mask, and-mod, and-zero-r}
+use Rattle.grid.specs.Grid.{half}
+use Rattle.texel.specs.declared.PVRTCTexelColorInt.{PVRTCTexelColorInt}
+use Rattle.texel.specs.Inner.{toBytes, pixel, Low, Bytes}
+use Rattle.texel.specs.Texel.{scaleColor, scaleAlpha, blended, packed, blend}
+use Rattle.texel.proofs.Blend as texel
+use Rattle.lanes.specs.Lanes.{lanes, bytes, clear, multiples, top, grown, fitted, bias, joined, mixedLanes, texelLanes, Mask}
+
+-- a mask acts on each lane apart
+step : (x rest low m v : ℕ) → x < 65536 → low < 65536 → bitAnd x low ≡ v → bitAnd (x + 65536 * rest) (low + 65536 * m) ≡ v + 65536 * bitAnd rest m
+step x rest low m v h hl k =
+    let p : x + 65536 * rest ≡ rest * 65536 + x = omega arith in
+    let q : low + 65536 * m ≡ m * 65536 + low = omega arith in
+    let e : bitAnd rest m * 65536 + bitAnd x low ≡ v + 65536 * bitAnd rest m = omega arith in
+    ap₂ bitAnd p q ∙ and-block 16 rest m x low h hl ∙ e
+
+masked : (b r g a mb mr mg ma vb vr vg va : ℕ) → b < 65536 → r < 65536 → g < 65536 → mb < 65536 → mr < 65536 → mg < 65536
+    → bitAnd b mb ≡ vb → bitAnd r mr ≡ vr → bitAnd g mg ≡ vg → bitAnd a ma ≡ va → bitAnd (lanes b r g a) (lanes mb mr mg ma) ≡ lanes vb vr vg va
+masked b r g a mb mr mg ma vb vr vg va hb hr hg lb lr lg eb er eg ea =
+    step b (r + 65536 * (g + 65536 * a)) mb (mr + 65536 * (mg + 65536 * ma)) vb hb lb eb
+    ∙ ap (λ (x : ℕ). vb + 65536 * x)
+    (step r (g + 65536 * a) mr (mg + 65536 * ma) vr hr lr er
+    ∙ ap (λ (x : ℕ). vr + 65536 * x) (step g a mg ma vg hg lg eg ∙ ap (λ (x : ℕ). vg + 65536 * x) ea))
+
+and-bytes : (b r g a : ℕ) → b < 65536 → r < 65536 → g < 65536 → bitAnd (lanes b r g a) bytes ≡ lanes (b % 256) (r % 256) (g % 256) (a % 256)
+and-bytes b r g a hb hr hg =
+    masked b r g a 255 255 255 255 (b % 256) (r % 256) (g % 256) (a % 256) hb hr hg (omega arith) (omega arith) (omega arith) (and-mask b 8) (and-mask r 8) (and-mask g 8) (and-mask a 8)
+
+and-clear : (b r g a : ℕ) → b < 65536 → r < 65536 → g < 65536 → bitAnd (lanes b r g a) clear ≡ lanes (b % 256) (r % 256) (g % 256) 0
+and-clear b r g a hb hr hg =
+    masked b r g a 255 255 255 0 (b % 256) (r % 256) (g % 256) 0 hb hr hg (omega arith) (omega arith) (omega arith) (and-mask b 8) (and-mask r 8) (and-mask g 8) (and-zero-r a)
+
+and-top : (b r g a : ℕ) → b < 65536 → r < 65536 → g < 65536 → a < 65536 → bitAnd (lanes b r g a) top ≡ lanes 0 0 0 a
+and-top b r g a hb hr hg ha =
+    masked b r g a 0 0 0 65535 0 0 0 a hb hr hg (omega arith) (omega arith) (omega arith) (and-zero-r b) (and-zero-r r) (and-zero-r g) (and-mask a 16 ∙ omega arith)
+
+-- each lane without its remainder
+multiple : (two : Bool) (x : ℕ) → x < 65536 → bitAnd x (65536 - half two) ≡ x / half two * half two
+multiple true x h = and-high x 14 2 ∙ (let k : x / 4 % 16384 ≡ x / 4 = omega arith in ap (λ (y : ℕ). y * 4) k)
+multiple false x h = and-high x 15 1 ∙ (let k : x / 2 % 32768 ≡ x / 2 = omega arith in ap (λ (y : ℕ). y * 2) k)
+
+mask-small : (two : Bool) → 65536 - half two < 65536
+mask-small true = omega arith
+mask-small false = omega arith
+
+and-multiples : (two : Bool) (b r g a : ℕ) → b < 65536 → r < 65536 → g < 65536 → a < 65536
+    → bitAnd (lanes b r g a) (multiples (half two)) ≡ lanes (b / half two * half two) (r / half two * half two) (g / half two * half two) (a / half two * half two)
+and-multiples two b r g a hb hr hg ha =
+    masked b r g a _ _ _ _ _ _ _ _ hb hr hg (mask-small two) (mask-small two) (mask-small two)
+    (multiple two b hb) (multiple two r hr) (multiple two g hg) (multiple two a ha)
+
+pub same : {b r g a b' r' g' a' : ℕ} → b ≡ b' → r ≡ r' → g ≡ g' → a ≡ a' → lanes b r g a ≡ lanes b' r' g' a'
+same p q r s = cc
+
+-- 33 times each lane, and alpha's once more
+grown-lanes : (b r g a : ℕ) → b < 65536 → r < 65536 → g < 65536 → a < 65536 → grown (lanes b r g a) ≡ lanes (33 * b) (33 * r) (33 * g) (34 * a)
+grown-lanes b r g a hb hr hg ha =
+    ap (λ (x : ℕ). 33 * lanes b r g a + x) (and-top b r g a hb hr hg ha) ∙ sum b r g a
+  where
+    sum : (b r g a : ℕ) → 33 * lanes b r g a + lanes 0 0 0 a ≡ lanes (33 * b) (33 * r) (33 * g) (34 * a)
+    sum b r g a = omega arith
+
+-- a lane divided: what crosses from the lane above lies above the byte
+
+cut64 : (x rest : ℕ) → (x + 65536 * rest) / 64 ≡ (x / 64 + 1024 * (rest % 64)) + 65536 * (rest / 64)
+cut64 x rest = omega arith
+
+low64 : (x rest : ℕ) → (x + 65536 * rest) % 64 ≡ x % 64
+low64 x rest = omega arith
+
+cut128 : (x rest : ℕ) → (x + 65536 * rest) / 128 ≡ (x / 128 + 512 * (rest % 128)) + 65536 * (rest / 128)
+cut128 x rest = omega arith
+
+low128 : (x rest : ℕ) → (x + 65536 * rest) % 128 ≡ x % 128
+low128 x rest = omega arith
+
+cut8 : (x rest : ℕ) → (x + 65536 * rest) / 8 ≡ (x / 8 + 8192 * (rest % 8)) + 65536 * (rest / 8)
+cut8 x rest = omega arith
+
+low8 : (x rest : ℕ) → (x + 65536 * rest) % 8 ≡ x % 8
+low8 x rest = omega arith
+
+div64 : (b r g a : ℕ) → lanes b r g a / 64 ≡ lanes (b / 64 + 1024 * (r % 64)) (r / 64 + 1024 * (g % 64)) (g / 64 + 1024 * (a % 64)) (a / 64)
+div64 b r g a = rw (cut64 b (r + 65536 * (g + 65536 * a)), low64 r (g + 65536 * a), cut64 r (g + 65536 * a), low64 g a, cut64 g a)
+
+div128 : (b r g a : ℕ) → lanes b r g a / 128 ≡ lanes (b / 128 + 512 * (r % 128)) (r / 128 + 512 * (g % 128)) (g / 128 + 512 * (a % 128)) (a / 128)
+div128 b r g a = rw (cut128 b (r + 65536 * (g + 65536 * a)), low128 r (g + 65536 * a), cut128 r (g + 65536 * a), low128 g a, cut128 g a)
+
+div8 : (b r g a : ℕ) → lanes b r g a / 8 ≡ lanes (b / 8 + 8192 * (r % 8)) (r / 8 + 8192 * (g % 8)) (g / 8 + 8192 * (a % 8)) (a / 8)
+div8 b r g a = rw (cut8 b (r + 65536 * (g + 65536 * a)), low8 r (g + 65536 * a), cut8 r (g + 65536 * a), low8 g a, cut8 g a)
+
+kept64 : (x y : ℕ) → x < 16384 → (x / 64 + 1024 * (y % 64)) % 256 ≡ x / 64
+kept64 x y h = omega arith
+
+kept128 : (x y : ℕ) → x < 32768 → (x / 128 + 512 * (y % 128)) % 256 ≡ x / 128
+kept128 x y h = omega arith
+
+fit64 : (b r g a : ℕ) → b < 16384 → r < 16384 → g < 16384 → a < 16384 → bitAnd (lanes b r g a / 64) bytes ≡ lanes (b / 64) (r / 64) (g / 64) (a / 64)
+fit64 b r g a hb hr hg ha =
+    ap (λ (x : ℕ). bitAnd x bytes) (div64 b r g a)
+    ∙ and-bytes (b / 64 + 1024 * (r % 64)) (r / 64 + 1024 * (g % 64)) (g / 64 + 1024 * (a % 64)) (a / 64) (omega arith) (omega arith) (omega arith)
+    ∙ same (kept64 b r hb) (kept64 r g hr) (kept64 g a hg) (omega arith)
+
+fit128 : (b r g a : ℕ) → b < 32768 → r < 32768 → g < 32768 → a < 32768 → bitAnd (lanes b r g a / 128) bytes ≡ lanes (b / 128) (r / 128) (g / 128) (a / 128)
+fit128 b r g a hb hr hg ha =
+    ap (λ (x : ℕ). bitAnd x bytes) (div128 b r g a)
+    ∙ and-bytes (b / 128 + 512 * (r % 128)) (r / 128 + 512 * (g % 128)) (g / 128 + 512 * (a % 128)) (a / 128) (omega arith) (omega arith) (omega arith)
+    ∙ same (kept128 b r hb) (kept128 r g hr) (kept128 g a hg) (omega arith)
+
+-- sums as lanes, alpha's doubled; four numbers of 8 bits as lanes
+abbrev pub sumLanes : PVRTCTexelColorInt → ℕ
+sumLanes s = lanes (s .b) (s .r) (s .g) (2 * s .a)
+
+abbrev pub plain : PVRTCTexelColorInt → ℕ
+plain s = lanes (s .b) (s .r) (s .g) (s .a)
+
+-- the one rule brings every sum to 8 bits
+pub fits : (two : Bool) (s : PVRTCTexelColorInt) → Low (8 * half two) s → fitted (half two) (sumLanes s) ≡ plain (toBytes (half two) s)
+unfolding scaleColor scaleAlpha
+fits false s l =
+    let hb = l .b in let hr = l .r in let hg = l .g in let ha = l .a in
+    ap (λ (x : ℕ). bitAnd (grown x / 64) bytes) (and-multiples false (s .b) (s .r) (s .g) (2 * s .a) (omega arith) (omega arith) (omega arith) (omega arith))
+    ∙ ap (λ (x : ℕ). bitAnd (x / 64) bytes) (grown-lanes (s .b / 2 * 2) (s .r / 2 * 2) (s .g / 2 * 2) (2 * s .a / 2 * 2) (omega arith) (omega arith) (omega arith) (omega arith))
+    ∙ fit64 (33 * (s .b / 2 * 2)) (33 * (s .r / 2 * 2)) (33 * (s .g / 2 * 2)) (34 * (2 * s .a / 2 * 2)) (omega arith) (omega arith) (omega arith) (omega arith)
+    ∙ same (omega arith) (omega arith) (omega arith) (omega arith)
+fits true s l =
+    let hb = l .b in let hr = l .r in let hg = l .g in let ha = l .a in
+    ap (λ (x : ℕ). bitAnd (grown x / 128) bytes) (and-multiples true (s .b) (s .r) (s .g) (2 * s .a) (omega arith) (omega arith) (omega arith) (omega arith))
+    ∙ ap (λ (x : ℕ). bitAnd (x / 128) bytes) (grown-lanes (s .b / 4 * 4) (s .r / 4 * 4) (s .g / 4 * 4) (2 * s .a / 4 * 4) (omega arith) (omega arith) (omega arith) (omega arith))
+    ∙ fit128 (33 * (s .b / 4 * 4)) (33 * (s .r / 4 * 4)) (33 * (s .g / 4 * 4)) (34 * (2 * s .a / 4 * 4)) (omega arith) (omega arith) (omega arith) (omega arith)
+    ∙ same (omega arith) (omega arith) (omega arith) (omega arith)
+
+-- the blend by one product
+times-lanes : (b r g a v : ℕ) → lanes b r g a * v ≡ lanes (b * v) (r * v) (g * v) (a * v)
+times-lanes b r g a v = rw (add-mul, mul-assoc, add-mul, mul-assoc, add-mul, mul-assoc)
+
+joined-is : (b r g a : ℕ) → b < 256 → r < 256 → g < 256 → a < 256 → joined (lanes b r g a) ≡ packed (record { r = r; g = g; b = b; a = a })
+joined-is b r g a hb hr hg ha = omega arith
+
+bound : (x y w : ℕ) → x < 256 → y < 256 → w ≤ 8 → x * (8 - w) + y * w < 2048
+bound x y w hx hy hw =
+    let p : x * (8 - w) ≤ 255 * (8 - w) = mul-le-mul-right (8 - w) (omega arith) in
+    let q : y * w ≤ 255 * w = mul-le-mul-right w (omega arith) in
+    omega arith
+
+apart : (b r g a b' r' g' a' : ℕ) → b < 256 → r < 256 → g < 256 → a < 256
+    → lanes b' r' g' a' + bias - lanes b r g a ≡ lanes (b' + 2048 - b) (r' + 2048 - r) (g' + 2048 - g) (a' + 2048 - a)
+apart b r g a b' r' g' a' hb hr hg ha = omega arith
+
+join8 : (b r g a b' r' g' a' : ℕ) → lanes b r g a + 8 * lanes b' r' g' a' ≡ lanes (b + 8 * b') (r + 8 * r') (g + 8 * g') (a + 8 * a')
+join8 b r g a b' r' g' a' = omega arith
+
+-- one lane of the product
+abbrev lane : ℕ → ℕ → ℕ → ℕ
+lane x y w = (y + 2048 - x) * w + 8 * x
+
+lane-is : (x y w : ℕ) → x < 256 → w ≤ 8 → lane x y w ≡ (x * (8 - w) + y * w) + 2048 * w
+lane-is x y w hx hw =
+    let d = y + 2048 - x in
+    let e : d + x ≡ y + 2048 = omega arith in
+    let f : (8 - w) + w ≡ 8 = omega arith in
+    let e1 = add-mul d x w in
+    let e2 = ap (λ (z : ℕ). z * w) e in
+    let e3 = add-mul y 2048 w in
+    let e4 = mul-add x (8 - w) w in
+    let e5 = ap (λ (z : ℕ). x * z) f in
+    omega arith
+
+module _ (x y w : ℕ) (hx : x < 256) (hy : y < 256) (hw : w ≤ 8) where
+  raised : (z : ℕ) → (lane x y w / 8 + 8192 * (z % 8)) % 256 ≡ blended x y w
+  unfolding blended
+  raised z = let b = bound x y w hx hy hw in let e = lane-is x y w hx hw in omega arith
+
+  raised-top : lane x y w / 8 % 256 ≡ blended x y w
+  unfolding blended
+  raised-top = let b = bound x y w hx hy hw in let e = lane-is x y w hx hw in omega arith
+
+  within : (z : ℕ) → lane x y w / 8 + 8192 * (z % 8) < 65536
+  within z = let b = bound x y w hx hy hw in let e = lane-is x y w hx hw in omega arith
+
+module _ (s t : PVRTCTexelColorInt) (w : ℕ) (hs : Bytes s) (ht : Bytes t) (hw : w ≤ 8) where
+  abbrev lb : ℕ
+  lb = lane (s .b) (t .b) w
+
+  abbrev lr : ℕ
+  lr = lane (s .r) (t .r) w
+
+  abbrev lg : ℕ
+  lg = lane (s .g) (t .g) w
+
+  abbrev la : ℕ
+  la = lane (s .a) (t .a) w
+
+  product : ((plain t + bias - plain s) * w + 8 * plain s) / 8 ≡ lanes (lb / 8 + 8192 * (lr % 8)) (lr / 8 + 8192 * (lg % 8)) (lg / 8 + 8192 * (la % 8)) (la / 8)
+  product =
+      ap (λ (x : ℕ). (x * w + 8 * plain s) / 8) (apart (s .b) (s .r) (s .g) (s .a) (t .b) (t .r) (t .g) (t .a) (hs .b) (hs .r) (hs .g) (hs .a))
+      ∙ ap (λ (x : ℕ). (x + 8 * plain s) / 8) (times-lanes (t .b + 2048 - s .b) (t .r + 2048 - s .r) (t .g + 2048 - s .g) (t .a + 2048 - s .a) w)
+      ∙ ap (λ (x : ℕ). x / 8) (join8 ((t .b + 2048 - s .b) * w) ((t .r + 2048 - s .r) * w) ((t .g + 2048 - s .g) * w) ((t .a + 2048 - s .a) * w) (s .b) (s .r) (s .g) (s .a))
+      ∙ div8 lb lr lg la
+
+  -- what is kept of it is the texel's word
+  pub mix-is : (p : Bool) → mixedLanes (plain s) (plain t) w (cond p clear bytes) ≡ packed (blend (pixel s) (pixel t) w p)
+  mix-is false =
+      ap (λ (x : ℕ). joined (bitAnd x bytes)) product
+      ∙ ap joined
+      (and-bytes _ _ _ _ (within (s .b) (t .b) w (hs .b) (ht .b) hw lr) (within (s .r) (t .r) w (hs .r) (ht .r) hw lg) (within (s .g) (t .g) w (hs .g) (ht .g) hw la)
+      ∙ same (raised (s .b) (t .b) w (hs .b) (ht .b) hw lr) (raised (s .r) (t .r) w (hs .r) (ht .r) hw lg) (raised (s .g) (t .g) w (hs .g) (ht .g) hw la) (raised-top (s .a) (t .a) w (hs .a) (ht .a) hw))
+      ∙ joined-is _ _ _ _
+      (texel.blend-byte (s .b) (t .b) w hw (hs .b) (ht .b)) (texel.blend-byte (s .r) (t .r) w hw (hs .r) (ht .r))
+      (texel.blend-byte (s .g) (t .g) w hw (hs .g) (ht .g)) (texel.blend-byte (s .a) (t .a) w hw (hs .a) (ht .a))
+  mix-is true =
+      ap (λ (x : ℕ). joined (bitAnd x clear)) product
+      ∙ ap joined
+      (and-clear _ _ _ _ (within (s .b) (t .b) w (hs .b) (ht .b) hw lr) (within (s .r) (t .r) w (hs .r) (ht .r) hw lg) (within (s .g) (t .g) w (hs .g) (ht .g) hw la)
+      ∙ same {a = 0} {a' = 0} (raised (s .b) (t .b) w (hs .b) (ht .b) hw lr) (raised (s .r) (t .r) w (hs .r) (ht .r) hw lg) (raised (s .g) (t .g) w (hs .g) (ht .g) hw la) refl)
+      ∙ joined-is _ _ _ 0
+      (texel.blend-byte (s .b) (t .b) w hw (hs .b) (ht .b)) (texel.blend-byte (s .r) (t .r) w hw (hs .r) (ht .r))
+      (texel.blend-byte (s .g) (t .g) w hw (hs .g) (ht .g)) (omega arith)
+
+-- so a texel of two sums
+pub texel-lanes : (two : Bool) (s t : PVRTCTexelColorInt) (w : ℕ) (p : Bool) → Low (8 * half two) s → Low (8 * half two) t → w ≤ 8
+    → texelLanes (half two) (sumLanes s) (sumLanes t) w (cond p clear bytes) ≡ packed (blend (pixel (toBytes (half two) s)) (pixel (toBytes (half two) t)) w p)
+unfolding texelLanes
+texel-lanes two s t w p ls lt hw =
+    ap₂ (λ (x y : ℕ). mixedLanes x y w (cond p clear bytes)) (fits two s ls) (fits two t lt)
+    ∙ mix-is (toBytes (half two) s) (toBytes (half two) t) w (texel.bytes two s ls) (texel.bytes two t lt) hw p
+
+-- what the code's products are bounded by
+pub grown-fits : (z m : ℕ) → z ≤ 288230376151711744 → grown (bitAnd z m) < 18446744073709551616
+grown-fits z m h = let p = and-le-l z m in let q = and-le-l (bitAnd z m) top in omega arith
+
+pub product-fits : (a b w : ℕ) → a ≤ bytes → b ≤ bytes → w ≤ 8 → (b + bias - a) * w + 8 * a < 18446744073709551616
+product-fits a b w ha hb hw =
+    let k : b + bias - a ≤ bytes + bias = omega arith in
+    let p : (b + bias - a) * w ≤ (bytes + bias) * 8 = mul-le-mul k hw in
+    omega arith
+
+pub one-word : (x k : ℕ) → Mask k → joined (bitAnd x k) < 4294967296
+one-word x k h =
+    let e : bitAnd x k % 4294967296 ≡ bitAnd (x % 4294967296) (k % 4294967296) = and-mod x k 32 in
+    let l = and-le-r (x % 4294967296) (k % 4294967296) in
+    let m = and-le-r x k in
+    let p = h .all in
+    let q = h .low in
+    omega arith

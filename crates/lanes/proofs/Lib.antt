@@ -1,0 +1,9 @@
+pub mod Lane
+pub mod Laying
+pub mod Linear
+pub mod Placing
+pub mod Reading
+pub mod Sliding
+pub mod Sliding4
+pub mod Texel4
+pub mod Window

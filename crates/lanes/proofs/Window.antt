@@ -1,0 +1,104 @@
+-- A window of three columns gives the sums of the nine words, at either depth. Assumes nothing.
+use mathlib.Core.Path.{_≡_, refl, sym, ap}
+use mathlib.Core.Bool.{Bool, true, false, cond}
+use mathlib.Core.List.{List}
+use Prim.Native.Nat.{ℕ, zero, suc, _+_, _*_, _-_, _<_}
+use native.Mathlib.Omega.{arith}
+use Rattle.grid.specs.Grid.{half, blockWidth}
+use Rattle.texel.specs.Inner.{sumsTo, Low}
+use Rattle.texel.specs.Texel.{Words, nineSum, packed, filled, ruleAt, punched, mixed, texelIn}
+use Rattle.texel.proofs.Nine.{small-side}
+use Rattle.texel.proofs.Range.{words, filled-le}
+use Rattle.texel.proofs.Sums.{sums-low}
+use Rattle.word.proofs.Bounds.{color-a, color-b}
+use Rattle.lanes.specs.declared.Column.{Column}
+use Rattle.lanes.specs.Column.{wordAt, lanesA, lanesB, columnOf, rowA, rowB}
+use Rattle.lanes.specs.Lanes.{bytes, clear, colorLanes, shared, texelLanes}
+use Rattle.lanes.proofs.Lane.{sumLanes, texel-lanes}
+use Rattle.lanes.proofs.Linear.{wordLanes, sums-are}
+
+-- row y of a column is its three words by their shares there
+pub row-a : (d : List ℕ) (p q s y : ℕ) → y < 4 → rowA (columnOf d p q s) y ≡ shared 2 y (lanesA d p) (lanesA d q) (lanesA d s)
+unfolding columnOf rowA
+row-a d p q s zero h = refl
+row-a d p q s (suc zero) h = refl
+row-a d p q s (suc (suc zero)) h = refl
+row-a d p q s (suc (suc (suc zero))) h = refl
+row-a d p q s (suc (suc (suc (suc y)))) h = absurd (omega arith)
+
+pub row-b : (d : List ℕ) (p q s y : ℕ) → y < 4 → rowB (columnOf d p q s) y ≡ shared 2 y (lanesB d p) (lanesB d q) (lanesB d s)
+unfolding columnOf rowB
+row-b d p q s zero h = refl
+row-b d p q s (suc zero) h = refl
+row-b d p q s (suc (suc zero)) h = refl
+row-b d p q s (suc (suc (suc zero))) h = refl
+row-b d p q s (suc (suc (suc (suc y)))) h = absurd (omega arith)
+
+-- nine words by their addresses
+module _ (two : Bool) (d : List ℕ) (z : ℕ → ℕ → ℕ) where
+  abbrev pub nineAt : Words
+  nineAt = words two (λ i j. wordAt d (z i j))
+
+  lanes-a : (i j : ℕ) → lanesA d (z i j) ≡ wordLanes nineAt false i j
+  unfolding lanesA
+  lanes-a i j = ap colorLanes (sym (color-a two (wordAt d (z i j))))
+
+  lanes-b : (i j : ℕ) → lanesB d (z i j) ≡ wordLanes nineAt true i j
+  unfolding lanesB
+  lanes-b i j = ap colorLanes (sym (color-b two (wordAt d (z i j))))
+
+  abbrev pub columnAt : ℕ → Column
+  columnAt i = columnOf d (z i 0) (z i 1) (z i 2)
+
+  module _ (x y : ℕ) (hx : x < blockWidth two) (hy : y < 4) where
+    sum-a : shared (half two) x (rowA (columnAt 0) y) (rowA (columnAt 1) y) (rowA (columnAt 2) y) ≡ sumLanes (sumsTo (half two) nineAt false x y 9)
+    sum-a =
+        rw (
+          row-a d (z 0 0) (z 0 1) (z 0 2) y hy,
+          row-a d (z 1 0) (z 1 1) (z 1 2) y hy,
+          row-a d (z 2 0) (z 2 1) (z 2 2) y hy,
+          lanes-a 0 0,
+          lanes-a 0 1,
+          lanes-a 0 2,
+          lanes-a 1 0,
+          lanes-a 1 1,
+          lanes-a 1 2,
+          lanes-a 2 0,
+          lanes-a 2 1,
+          lanes-a 2 2,
+        )
+        (sums-are (half two) x y nineAt false)
+
+    sum-b : shared (half two) x (rowB (columnAt 0) y) (rowB (columnAt 1) y) (rowB (columnAt 2) y) ≡ sumLanes (sumsTo (half two) nineAt true x y 9)
+    sum-b =
+        rw (
+          row-b d (z 0 0) (z 0 1) (z 0 2) y hy,
+          row-b d (z 1 0) (z 1 1) (z 1 2) y hy,
+          row-b d (z 2 0) (z 2 1) (z 2 2) y hy,
+          lanes-b 0 0,
+          lanes-b 0 1,
+          lanes-b 0 2,
+          lanes-b 1 0,
+          lanes-b 1 1,
+          lanes-b 1 2,
+          lanes-b 2 0,
+          lanes-b 2 1,
+          lanes-b 2 2,
+        )
+        (sums-are (half two) x y nineAt true)
+
+    low : (second : Bool) → Low (8 * half two) (sumsTo (half two) nineAt second x y 9)
+    low second = sums-low (half two) nineAt second x y hx hy 9 (omega arith) (λ k l. small-side two second _)
+
+    -- a texel of the window, where the weight and what is kept are the definition's
+    pub window-texel : (w keep : ℕ) → w ≡ filled (half two) (ruleAt (nineAt 1 1) x y) nineAt (x + blockWidth two) (y + 4)
+        → keep ≡ cond (punched (half two) (nineAt 1 1) x y) clear bytes
+        → texelLanes (half two) (shared (half two) x (rowA (columnAt 0) y) (rowA (columnAt 1) y) (rowA (columnAt 2) y))
+        (shared (half two) x (rowB (columnAt 0) y) (rowB (columnAt 1) y) (rowB (columnAt 2) y)) w keep
+        ≡ packed (texelIn (half two) nineAt x y)
+    unfolding texelIn mixed sumsTo nineSum
+    window-texel w keep ew ek =
+        rw (sum-a, sum-b, ew, ek)
+        (texel-lanes two (sumsTo (half two) nineAt false x y 9) (sumsTo (half two) nineAt true x y 9)
+        (filled (half two) (ruleAt (nineAt 1 1) x y) nineAt (x + blockWidth two) (y + 4)) (punched (half two) (nineAt 1 1) x y) (low false) (low true)
+        (filled-le two (λ i j. wordAt d (z i j)) (ruleAt (nineAt 1 1) x y) (x + blockWidth two) (y + 4)))

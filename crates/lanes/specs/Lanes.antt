@@ -1,0 +1,62 @@
+-- Four channels as the 16-bit lanes of one number. Assumes nothing: these are definitions.
+-- h is half the width of a block, 2 at 4bpp and 4 at 2bpp.
+use mathlib.Core.Path.{_≡_}
+use Prim.Native.Nat.{ℕ, _+_, _-_, _*_, _/_, _%_, _≤_}
+use lib.Bits.{bitAnd}
+use Rattle.word.specs.declared.PVRTCTexelColor.{PVRTCTexelColor}
+use Rattle.texel.specs.Texel.{share}
+
+-- Four numbers as lanes: blue, red, green, alpha, from the low end.
+abbrev pub lanes : ℕ → ℕ → ℕ → ℕ → ℕ
+lanes b r g a = b + 65536 * (r + 65536 * (g + 65536 * a))
+
+-- A colour as lanes, its alpha doubled, so that one rule brings all four to 8 bits.
+abbrev pub colorLanes : PVRTCTexelColor → ℕ
+colorLanes c = lanes (c .b) (c .r) (c .g) (2 * c .a)
+
+-- The low byte of each lane, and of each but alpha's.
+abbrev pub bytes : ℕ
+bytes = 0x00ff00ff00ff00ff
+
+abbrev pub clear : ℕ
+clear = 0x000000ff00ff00ff
+
+-- Each lane without its remainder by h; alpha's lane alone.
+abbrev pub multiples : ℕ → ℕ
+multiples h = lanes (65536 - h) (65536 - h) (65536 - h) (65536 - h)
+
+abbrev pub top : ℕ
+top = 0xffff000000000000
+
+-- A colour's lanes 33 times, and alpha's 34 times.
+abbrev pub grown : ℕ → ℕ
+grown t = 33 * t + bitAnd t top
+
+-- Sums of shares as lanes, brought to 8 bits each.
+abbrev pub fitted : ℕ → ℕ → ℕ
+fitted h z = bitAnd (grown (bitAnd z (multiples h)) / (32 * h)) bytes
+
+-- What is added to each lane of a difference, so that it stays above 0. It falls out above the byte.
+abbrev pub bias : ℕ
+bias = 0x0800080008000800
+
+-- Lanes of 8 bits as a word of blue, green, red and alpha.
+abbrev pub joined : ℕ → ℕ
+joined t = t % 4294967296 + t / 16777216
+
+-- The blend of x and y at the weight w, of which `keep` is kept, by one product.
+abbrev pub mixedLanes : ℕ → ℕ → ℕ → ℕ → ℕ
+mixedLanes x y w keep = joined (bitAnd (((y + bias - x) * w + 8 * x) / 8) keep)
+
+-- A texel from the two sums of shares at its place.
+unfoldable pub texelLanes : ℕ → ℕ → ℕ → ℕ → ℕ → ℕ
+texelLanes h x y w keep = mixedLanes (fitted h x) (fitted h y) w keep
+
+-- Three numbers by their shares at place p of 2h: the previous block's, the own, the next one's.
+unfoldable pub shared : ℕ → ℕ → ℕ → ℕ → ℕ → ℕ
+shared h p l c r = share h p 0 * l + share h p 1 * c + share h p 2 * r
+
+-- What may be kept: low bytes of lanes, those of blue and red among them.
+pub record Mask (k : ℕ) : Type 0 where
+  pub all : k ≤ bytes
+  pub low : k % 4294967296 ≡ 0x00ff00ff

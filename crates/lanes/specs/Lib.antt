@@ -1,0 +1,4 @@
+pub mod Column
+pub mod Four
+pub mod Lanes
+pub mod Strip
