@@ -1,11 +1,13 @@
 // The calls: a texel, a row, all blocks of a picture.
 mod block;
 mod check;
+mod plain;
 mod row;
 
 pub use block::decode_pvrtc;
 pub use block::decode_pvrtc_2bpp;
 pub use block::decode_pvrtc_4bpp;
+pub use block::decode_pvrtc_plain;
 pub use check::refusal_number;
 pub use row::decode_row;
 ghost use mathlib.Core.Path.{_≡_};

@@ -1,0 +1,7 @@
+pub mod Answers
+pub mod Front
+pub mod Layouts
+pub mod Limits
+pub mod Past
+pub mod Said
+pub mod Whole

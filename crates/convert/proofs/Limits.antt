@@ -1,0 +1,106 @@
+-- What the program's limits say, and what is known of a plate that keeps them. Assumes nothing.
+use mathlib.Core.Path.{_≡_, refl, ap, _∙_}
+use mathlib.Core.Bool.{Bool, true, false, cond, _||_}
+use Prim.Native.Nat.{ℕ, _*_, _≤_, _<_}
+use native.Mathlib.Nat.{mul-le-mul, mul-le-mul-left}
+use native.Mathlib.Omega.{arith}
+use lib.Dec.{eqb, ltb, ltb→lt}
+use borrow.Author.Tests.{ltb-false, le-ltb}
+use Rattle.facts.specs.Checks.{firstOf, at}
+use Rattle.facts.proofs.Checks.{none-holds, first-append}
+use Rattle.facts.proofs.Finite.{below}
+use Rattle.grid.specs.Grid.{blockWidth}
+use Rattle.grid.proofs.Counts.{blocks-le, blocks-cover}
+use Rattle.pvrtc.specs.declared.Call.the-variants as call
+use Rattle.pvrtc.specs.declared.Picture.{Picture}
+use Rattle.pvrtc.specs.Refusals.{across, down, need, zeroSide, largeSide, shortImage, outside, checks}
+use Rattle.pvrtc.proofs.Accepted.{wide}
+use Rattle.convert.specs.Inner.{limitChecks, dataChecks, TgaFits}
+use Rattle.convert.specs.Output.{longMetadata, longSide, largeNeed, ownChecks, Room}
+
+-- where neither of two tests holds, the first does not, and the second does not
+or-left : (a b : Bool) → (a || b) ≡ false → a ≡ false
+or-left true b e = e
+or-left false b e = refl
+
+or-right : (a b : Bool) → (a || b) ≡ false → b ≡ false
+or-right true b e = let z : true ≡ false = e in cc
+or-right false b e = e
+
+-- a number that is not above 0 is 0
+pub says-none : {n m : ℕ} → n ≡ m → n ≤ 0 → m ≡ 0
+says-none e h = omega arith
+
+-- no limit is exceeded
+pub record Kept (p : Picture) (m : ℕ) : Type 0 where
+  pub metadata : longMetadata m ≡ false
+  pub sides : zeroSide p ≡ false
+  pub small : longSide p ≡ false
+  pub needed : largeNeed p ≡ false
+
+module _ (p : Picture) (m : ℕ) where
+  above : (k : ℕ) → k < 4 → 0 < at (limitChecks p m) k .number
+  above k h = ltb→lt 0 _ (below (λ k. ltb 0 (at (limitChecks p m) k .number)) 4 tt k h)
+
+  pub kept : firstOf (limitChecks p m) ≡ 0 → Kept p m
+  kept e =
+      let none : (k : ℕ) → at (limitChecks p m) k .holds ≡ false = none-holds (limitChecks p m) above e in
+      record { metadata = none 0; sides = none 1; small = none 2; needed = none 3 }
+
+  -- the limits speak first, and what the data says comes after them
+  pub own-number : (len : ℕ) → firstOf (ownChecks p m len) ≡ cond (eqb (firstOf (limitChecks p m)) 0) (firstOf (dataChecks p len)) (firstOf (limitChecks p m))
+  own-number len = first-append (limitChecks p m) (dataChecks p len) above
+
+-- equal plates with equal lengths are refused alike
+pub own-same : {p q : Picture} {m m' len len' : ℕ} → p ≡ q → m ≡ m' → len ≡ len' → firstOf (ownChecks p m len) ≡ firstOf (ownChecks q m' len')
+own-same {q = q} {m} {m'} {len} ep em el =
+    ap (λ (x : Picture). firstOf (ownChecks x m len)) ep ∙ ap (λ (k : ℕ). firstOf (ownChecks q k len)) em ∙ ap (λ (k : ℕ). firstOf (ownChecks q m' k)) el
+
+module _ (p : Picture) (e : longSide p ≡ false) where
+  pub width-small : p .width ≤ 1024
+  width-small = ltb-false 1024 (p .width) (or-left _ (ltb 1024 (p .height)) e)
+
+  pub height-small : p .height ≤ 1024
+  height-small = ltb-false 1024 (p .height) (or-right (ltb 1024 (p .width)) _ e)
+
+  -- so the call does not find a side too large
+  pub not-large : largeSide p ≡ false
+  not-large = rw (le-ltb 65536 (p .width) (omega (arith, width-small)), le-ltb 65536 (p .height) (omega (arith, height-small)))
+
+  -- and there are few blocks
+  pub few-blocks : across p * down p ≤ 1048576
+  few-blocks =
+      let x : across p ≤ 1024 = omega (arith, blocks-le (blockWidth (p .is2bpp)) (p .width) (wide (p .is2bpp)), width-small) in
+      let y : down p ≤ 1024 = omega (arith, blocks-le 4 (p .height) (omega arith), height-small) in
+      mul-le-mul x y
+
+narrow : (two : Bool) → blockWidth two ≤ 8
+narrow true = omega arith
+narrow false = omega arith
+
+-- a picture whose need is small has few words
+pub few-words : (p : Picture) → largeNeed p ≡ false → p .width * p .height ≤ 131072
+few-words p e =
+    let x : p .width ≤ across p * blockWidth (p .is2bpp) = blocks-cover (blockWidth (p .is2bpp)) (p .width) (wide (p .is2bpp)) in
+    let y : p .height ≤ down p * 4 = blocks-cover 4 (p .height) (omega arith) in
+    let n : need p ≤ 32768 = ltb-false 32768 (need p) e in
+    omega (arith, mul-le-mul x y, mul-le-mul-left (across p * down p) (narrow (p .is2bpp)), n)
+
+-- what the block call says of a plate that keeps the limits, into enough words: that the data is short, or that the blocks are no power of two
+pub call-says : (p : Picture) (room len : ℕ) → zeroSide p ≡ false → longSide p ≡ false → p .width * p .height ≤ room
+    → firstOf (checks p (call.Block room) len) ≡ firstOf (dataChecks p len)
+unfolding firstOf shortImage outside
+call-says p room len z l fits = simp (z, not-large p l, le-ltb room (p .width * p .height) fits)
+
+-- the picture fits into enough words, and its TGA into enough bytes
+pub tga-fits : (p : Picture) (m : ℕ) {image out words : ℕ} → firstOf (limitChecks p m) ≡ 0 → Room image out → words ≡ image → TgaFits (p .width) (p .height) words out
+tga-fits p m e r same =
+    let k = kept p m e in
+    let few = few-words p (k .needed) in
+    record {
+      small-w = width-small p (k .small);
+      small-h = height-small p (k .small);
+      few = few;
+      words = omega (arith, r .words);
+      bytes = omega (arith, r .bytes);
+    }

@@ -1,0 +1,35 @@
+-- What the functions inside ask and promise one another. Assumes nothing: these are definitions.
+use mathlib.Core.Path.{_≡_}
+use mathlib.Core.List.{List, [], _∷_}
+use Prim.Native.Nat.{ℕ, _+_, _*_, _≤_}
+use lib.ListN.{length}
+use Rattle.facts.specs.Checks.{Check, check, firstOf}
+use Rattle.pvrtc.specs.Refusals.{zeroSide, shortData, notPower}
+use Rattle.pvrtc.specs.declared.Picture.{Picture}
+use Rattle.convert.specs.Output.{longMetadata, longSide, largeNeed, ownChecks, laid, Answered}
+
+-- The first four of the program's own refusals, which ask only the header's numbers.
+abbrev pub limitChecks : Picture → (metadata : ℕ) → List Check
+limitChecks p metadata =
+    check (longMetadata metadata) 21 ∷ check (zeroSide p) 1 ∷ check (longSide p) 22 ∷ check (largeNeed p) 23 ∷ []
+
+-- The last two, which the block call says.
+abbrev pub dataChecks : Picture → (len : ℕ) → List Check
+dataChecks p len = check (shortData p len) 3 ∷ check (notPower p) 5 ∷ []
+
+-- What is promised of a plate whose header is accepted.
+abbrev pub PlateConverted : Picture → (metadata : ℕ) → (d image image' out out' : List ℕ) → ℕ → Type 0
+PlateConverted p metadata d image image' out out' r = Answered (firstOf (ownChecks p metadata (length d))) p d image image' out out' r
+
+-- Bytes were laid in front of lent bytes, and r is how many.
+pub record Laid (bytes old new : List ℕ) (r : ℕ) : Type 0 where
+  pub size : r ≡ length bytes
+  pub is : new ≡ laid bytes old
+
+-- A picture of w by h words fits into the lent ones, and its TGA into the lent bytes.
+pub record TgaFits (w h image out : ℕ) : Type 0 where
+  pub small-w : w ≤ 1024
+  pub small-h : h ≤ 1024
+  pub few : w * h ≤ 131072
+  pub words : w * h ≤ image
+  pub bytes : 18 + 4 * (w * h) ≤ out

@@ -1,0 +1,116 @@
+-- What `plate` writes for a file, as document 01 says it ("The program and its two published layouts"). Assumes nothing: these are definitions.
+-- `file` is the list of the file's bytes.
+use mathlib.Core.Path.{_≡_}
+use mathlib.Core.Bool.{Bool, cond, _||_}
+use mathlib.Core.List.{List, [], _∷_, _++_}
+use Prim.Native.Nat.{ℕ, _+_, _*_, _/_, _%_, _^_, _≤_}
+use lib.Dec.{eqb, ltb}
+use lib.ListN.{length, getD, drop}
+use Rattle.facts.specs.Checks.{Check, check, firstOf}
+use Rattle.facts.specs.Tab.{tab}
+use Rattle.paint.specs.Paint.{painted}
+use Rattle.pvr.specs.Header.{widthField, heightField, metadataSize, isTwo, payloadOffset, headerChecks}
+use Rattle.pvrtc.specs.Calls.{picture, pictureTexel}
+use Rattle.pvrtc.specs.Refusals.{need, zeroSide, shortData, notPower}
+use Rattle.pvrtc.specs.declared.Picture.{Picture}
+
+-- The plate that a header describes.
+abbrev pub plateOf : List ℕ → Picture
+plateOf file = picture (widthField file) (heightField file) (isTwo file)
+
+-- The data of level 0 follows the metadata. Metadata cut short leaves no data.
+abbrev pub levelData : List ℕ → List ℕ
+levelData file = drop (payloadOffset file) file
+
+-- The metadata is above 4,096 bytes.
+abbrev pub longMetadata : (metadata : ℕ) → Bool
+longMetadata metadata = ltb 4096 metadata
+
+-- A side is above 1,024.
+abbrev pub longSide : Picture → Bool
+longSide p = ltb 1024 (p .width) || ltb 1024 (p .height)
+
+-- The need is above 32,768 bytes.
+abbrev pub largeNeed : Picture → Bool
+largeNeed p = ltb 32768 (need p)
+
+-- The program's own refusals of a plate with so many bytes of metadata and `len` bytes of data, in their order.
+abbrev pub ownChecks : Picture → (metadata len : ℕ) → List Check
+ownChecks p metadata len =
+    check (longMetadata metadata) 21
+    ∷ check (zeroSide p) 1
+    ∷ check (longSide p) 22
+    ∷ check (largeNeed p) 23
+    ∷ check (shortData p len) 3
+    ∷ check (notPower p) 5
+    ∷ []
+
+-- The refusals of the program, in their order: the header's, then its own.
+abbrev pub programChecks : List ℕ → List Check
+programChecks file = headerChecks file ++ ownChecks (plateOf file) (metadataSize file) (length (levelData file))
+
+-- The number that the program says of a file: 0 for none.
+abbrev pub programRefusal : List ℕ → ℕ
+programRefusal file = firstOf (programChecks file)
+
+-- The digits of a number below 100, as text.
+abbrev pub digits : ℕ → List ℕ
+digits n = cond (ltb n 10) ((48 + n) ∷ []) ((48 + n / 10) ∷ (48 + n % 10) ∷ [])
+
+-- The text `refused ` with the space after it.
+abbrev pub refusedText : List ℕ
+refusedText = 0x72 ∷ 0x65 ∷ 0x66 ∷ 0x75 ∷ 0x73 ∷ 0x65 ∷ 0x64 ∷ 0x20 ∷ []
+
+-- The line `refused N`, with its line feed.
+unfoldable pub refusedLine : ℕ → List ℕ
+refusedLine n = refusedText ++ (digits n ++ (0x0A ∷ []))
+
+-- Byte k of a number, little-endian.
+abbrev pub byteOf : ℕ → ℕ → ℕ
+byteOf v k = v / 256 ^ k % 256
+
+-- The 18 bytes of a TGA's header: uncompressed, 32 bits a texel, the first row on top.
+unfoldable pub tgaHeader : (w h : ℕ) → List ℕ
+tgaHeader w h =
+    0x00 ∷ 0x00 ∷ 0x02
+    ∷ 0x00 ∷ 0x00 ∷ 0x00 ∷ 0x00 ∷ 0x00 ∷ 0x00 ∷ 0x00 ∷ 0x00 ∷ 0x00
+    ∷ byteOf w 0 ∷ byteOf w 1
+    ∷ byteOf h 0 ∷ byteOf h 1
+    ∷ 0x20 ∷ 0x28
+    ∷ []
+
+-- A TGA of w by h words: its header, then each word's four bytes, little-endian.
+abbrev pub tgaOf : (w h : ℕ) → (word : ℕ → ℕ) → List ℕ
+tgaOf w h word = tgaHeader w h ++ tab (λ i. byteOf (word (i / 4)) (i % 4)) (4 * (w * h))
+
+-- The TGA of a picture whose data is d. Words follow one another in row order: word k is texel (k % width, k / width).
+abbrev pub tga : Picture → List ℕ → List ℕ
+tga p d = tgaOf (p .width) (p .height) (λ k. pictureTexel p d (k % p .width) (k / p .width))
+
+-- What is written for a picture of which the number n is said: the line of a refusal, or the TGA where n is 0.
+unfoldable pub written : ℕ → Picture → List ℕ → List ℕ
+written n p d = cond (eqb n 0) (tga p d) (refusedLine n)
+
+-- What the program writes for a file.
+abbrev pub output : List ℕ → List ℕ
+output file = written (programRefusal file) (plateOf file) (levelData file)
+
+-- Lent bytes with these in front; the rest stay as they were.
+abbrev pub laid : List ℕ → List ℕ → List ℕ
+laid bytes old = painted 0 (length bytes) (length bytes) 1 (λ i _. getD bytes i 0) old
+
+-- How many bytes of `out` are to be written, and the lent bytes and words afterwards: what is written stands in front, and the words are
+-- the picture's where n is 0, else as they were.
+pub record Answered (n : ℕ) (p : Picture) (d : List ℕ) (image image' out out' : List ℕ) (r : ℕ) : Type 0 where
+  pub size : r ≡ length (written n p d)
+  pub bytes : out' ≡ laid (written n p d) out
+  pub words : image' ≡ cond (eqb n 0) (painted 0 (p .width) (p .width) (p .height) (pictureTexel p d) image) image
+
+-- What `convert` asks: the lent words and bytes are enough for the largest picture that the limits let through.
+pub record Room (image out : ℕ) : Type 0 where
+  pub words : 131072 ≤ image
+  pub bytes : 524306 ≤ out
+
+-- The promise of `convert`: the output stands in front of the lent bytes, and r is its length.
+abbrev pub Converted : (file image image' out out' : List ℕ) → ℕ → Type 0
+Converted file image image' out out' r = Answered (programRefusal file) (plateOf file) (levelData file) image image' out out' r
