@@ -4,7 +4,7 @@ use Prim.Native.Nat.{ℕ, _*_, _<_, _≤_}
 use native.Mathlib.Omega.{arith}
 use borrow.Author.Needs.{needs}
 use borrow.Author.Tests.{lt-ltb, le-ltb}
-use Rattle.pvr.proofs.Order.{holds-here, holds-later, none-left}
+use Rattle.facts.proofs.Order.{holds-here, holds-later, none-left}
 use Rattle.pvrtc.specs.Calls.{picture}
 use Rattle.pvrtc.specs.Refusals.{across, down, need}
 use Rattle.convert.proofs.Limits.{few-blocks}
