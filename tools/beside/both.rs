@@ -1,4 +1,4 @@
-// The two decoders: the Rust original, whose text is taken in unchanged, and ours, as include/plate.h declares it.
+// The two decoders: the Rust original, whose text is taken in unchanged, and ours, as include/plate.h declares it, with the program's function beside them.
 
 #[allow(dead_code)]
 pub mod original {
@@ -11,6 +11,7 @@ extern "C" {
     pub fn plate_row(data: *const u8, len: usize, width: u64, height: u64, depth: u32, y: u64, row: *mut u32, room: usize) -> u64;
     pub fn plate_picture(data: *const u8, len: usize, width: u64, height: u64, depth: u32, image: *mut u32, room: usize) -> u64;
     pub fn plate_header(file: *const u8, len: usize, field: u32) -> u64;
+    pub fn plate_convert(file: *const u8, len: usize, image: *mut u32, room: usize, out: *mut u8, size: usize) -> u64;
 }
 
 // A generator of numbers that look drawn.

@@ -10,11 +10,15 @@ mod both;
 mod families;
 mod guarded;
 
-use both::{original, plate_header, plate_picture, plate_row, plate_texel};
+use both::{original, plate_convert, plate_header, plate_picture, plate_row, plate_texel};
 use guarded::Guarded;
 
 // Words before a lent buffer that must stay.
 const BEFORE: usize = 64;
+
+// The room that the program lends.
+const WORDS: usize = 131072;
+const OUT: usize = 524306;
 
 // What a lent word holds before a call: no texel is likely to be it.
 fn old_word(i: usize) -> u32 {
@@ -69,6 +73,7 @@ pub struct Comparison {
     data: Guarded,
     image: Guarded,
     row: Guarded,
+    out: Guarded,
     theirs: Vec<u32>,
     pub cases: u64,
     pub texels: u64,
@@ -153,7 +158,44 @@ impl Comparison {
         self.texels += w + 1;
     }
 
-    // A damaged file by its header, then its picture if that is small: every answer has a known number.
+    // What the program must write for a file with these fields of its header: the picture by the original, or the line of a refusal.
+    fn expected_output(&mut self, fields: &[u64], data: &[u8]) -> Vec<u8> {
+        let s = Shape { width: fields[1] as usize, height: fields[2] as usize, is2bpp: fields[3] == 2 };
+        let refused = match fields[0] {
+            0 if fields[4] - 52 > 4096 => 21,
+            0 if s.width == 0 || s.height == 0 => 1,
+            0 if s.width > 1024 || s.height > 1024 => 22,
+            0 if s.need() > 32768 => 23,
+            0 => s.refusal(data.len(), WORDS),
+            n => n,
+        };
+        if refused != 0 {
+            return format!("refused {refused}\n").into_bytes();
+        }
+        self.theirs.clear();
+        self.theirs.resize(s.width * s.height, 0);
+        self.original(data, s);
+        let (w, h) = ((s.width as u16).to_le_bytes(), (s.height as u16).to_le_bytes());
+        let mut tga = vec![0, 0, 2, 0, 0, 0, 0, 0, 0, 0, 0, 0, w[0], w[1], h[0], h[1], 0x20, 0x28];
+        tga.extend(self.theirs.iter().flat_map(|word| word.to_le_bytes()));
+        tga
+    }
+
+    // The program's function on a file, which stands in lent memory already: what it writes, and some bytes after, which must stay.
+    fn converted(&mut self, at: *const u8, file: &[u8], fields: &[u64], data: &[u8]) {
+        let expected = self.expected_output(fields, data);
+        let looked_at = (expected.len() + 256).min(OUT);
+        let (image, out) = (self.image.words(WORDS), self.out.bytes(OUT));
+        out[..looked_at].fill(0xa5);
+        let n = unsafe { plate_convert(at, file.len(), image.as_mut_ptr(), WORDS, out.as_mut_ptr(), OUT) } as usize;
+        let stays = out[expected.len()..looked_at].iter().all(|b| *b == 0xa5);
+        let none = unsafe { plate_convert(at, file.len(), image.as_mut_ptr(), WORDS, out.as_mut_ptr(), OUT - 1) };
+        if n != expected.len() || out[..n.min(OUT)] != expected || !stays || none != 0 {
+            self.differs(file.len(), format!("convert answers {n}, expected {} for {file:02x?}", expected.len()));
+        }
+    }
+
+    // A damaged file by its header, by the program's function, then its picture if that is small: every answer has a known number.
     pub fn file(&mut self, file: &[u8]) {
         let lent = self.data.bytes(file.len());
         lent.copy_from_slice(file);
@@ -170,6 +212,7 @@ impl Comparison {
         }
         let shape = Shape { width: fields[1] as usize, height: fields[2] as usize, is2bpp: fields[3] == 2 };
         let data = file.get(fields[4] as usize..).unwrap_or(&[]);
+        self.converted(at, file, &fields, data);
         if fields[0] != 0 {
             self.cases += 1;
             self.refused += 1;
@@ -205,6 +248,7 @@ fn main() {
         data: Guarded::new(room / 4),
         image: Guarded::new(room),
         row: Guarded::new(4 * (65536 + 4096)),
+        out: Guarded::new(OUT),
         theirs: Vec::new(),
         cases: 0,
         texels: 0,

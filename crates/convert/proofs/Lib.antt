@@ -1,5 +1,6 @@
 pub mod Answers
 pub mod Front
+pub mod InRoom
 pub mod Layouts
 pub mod Limits
 pub mod Past

@@ -1,7 +1,7 @@
 -- What `plate` writes for a file, as document 01 says it ("The program and its two published layouts"). Assumes nothing: these are definitions.
 -- `file` is the list of the file's bytes.
 use mathlib.Core.Path.{_≡_}
-use mathlib.Core.Bool.{Bool, cond, _||_}
+use mathlib.Core.Bool.{Bool, true, false, cond, not, _&&_, _||_}
 use mathlib.Core.List.{List, [], _∷_, _++_}
 use Prim.Native.Nat.{ℕ, _+_, _*_, _/_, _%_, _^_, _≤_}
 use lib.Dec.{eqb, ltb}
@@ -114,3 +114,12 @@ pub record Room (image out : ℕ) : Type 0 where
 -- The promise of `convert`: the output stands in front of the lent bytes, and r is its length.
 abbrev pub Converted : (file image image' out out' : List ℕ) → ℕ → Type 0
 Converted file image image' out out' r = Answered (programRefusal file) (plateOf file) (levelData file) image image' out out' r
+
+-- Lent room for every file.
+abbrev pub roomy : (image out : List ℕ) → Bool
+roomy image out = not (ltb (length image) 131072) && not (ltb (length out) 524306)
+
+-- The promise of `plate_convert`: the same where there is room; else it answers 0, and every lent word and byte stays.
+pub record ConvertedInRoom (file image image' out out' : List ℕ) (r : ℕ) : Type 0 where
+  pub done : roomy image out ≡ true → Converted file image image' out out' r
+  pub too-little : roomy image out ≡ false → (r ≡ 0) × (image' ≡ image) × (out' ≡ out)

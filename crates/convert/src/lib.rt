@@ -7,7 +7,7 @@ ghost use lib.ListN.{length, getD};
 ghost use Rattle.facts.specs.Checks.{firstOf};
 ghost use Rattle.paint.specs.Paint.{painted};
 ghost use Rattle.pvrtc.specs.Calls.{picture};
-ghost use Rattle.convert.specs.Output.{refusedLine, byteOf, tgaHeader, tgaOf, laid, Room, Converted};
+ghost use Rattle.convert.specs.Output.{refusedLine, byteOf, tgaHeader, tgaOf, laid, Room, Converted, ConvertedInRoom};
 ghost use Rattle.convert.specs.Inner.{limitChecks, PlateConverted, Laid, TgaFits};
 use pvr::Header;
 use pvrtc::Decoded;
@@ -209,4 +209,18 @@ pub fn convert(file: &[u8], image: &mut [u32], out: &mut [u8]) -> usize
         }
         Header::Refused(f) => put_refused(pvr::header_refusal_number(f), out),
     }
+}
+
+// The same for C, of which nothing can be asked: with too little room for some file it answers 0 and writes nothing.
+#[no_mangle]
+pub extern "C" fn plate_convert(file: &[u8], image: &mut [u32], out: &mut [u8]) -> usize
+    ensures { λ r. ⌜ ConvertedInRoom (now (file .entry)) (now (image .entry)) (now (image .exit)) (now (out .entry)) (now (out .exit)) r ⌝ }
+{
+    if image.len() < 131072 {
+        return 0;
+    }
+    if out.len() < 524306 {
+        return 0;
+    }
+    convert(file, image, out)
 }

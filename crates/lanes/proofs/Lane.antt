@@ -235,10 +235,10 @@ texel-lanes two s t w p ls lt hw =
 pub grown-fits : (z m : ℕ) → z ≤ 288230376151711744 → grown (bitAnd z m) < 18446744073709551616
 grown-fits z m h = let p = and-le-l z m in let q = and-le-l (bitAnd z m) top in omega arith
 
-pub product-fits : (a b w : ℕ) → a ≤ bytes → b ≤ bytes → w ≤ 8 → (b + bias - a) * w + 8 * a < 18446744073709551616
+pub product-fits : (a b w : ℕ) → a ≤ bytes → b ≤ bytes → w ≤ 15 → (b + bias - a) * w + 8 * a < 18446744073709551616
 product-fits a b w ha hb hw =
     let k : b + bias - a ≤ bytes + bias = omega arith in
-    let p : (b + bias - a) * w ≤ (bytes + bias) * 8 = mul-le-mul k hw in
+    let p : (b + bias - a) * w ≤ (bytes + bias) * 15 = mul-le-mul k hw in
     omega arith
 
 pub one-word : (x k : ℕ) → Mask k → joined (bitAnd x k) < 4294967296

@@ -1,9 +1,13 @@
+pub mod Bytes
 pub mod Lane
 pub mod Laying
 pub mod Linear
 pub mod Placing
 pub mod Reading
 pub mod Sliding
+pub mod Sliding2
 pub mod Sliding4
+pub mod Stored
+pub mod Texel2
 pub mod Texel4
 pub mod Window

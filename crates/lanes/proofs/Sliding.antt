@@ -1,5 +1,5 @@
 -- The window slides along a row of blocks, and the blocks make the row. Assumes nothing.
-use mathlib.Core.Path.{_≡_, refl, ap, _∙_}
+use mathlib.Core.Path.{_≡_, refl, sym, ap, _∙_}
 use mathlib.Core.Bool.{Bool}
 use mathlib.Core.List.{List}
 use Prim.Native.Nat.{ℕ, _+_, _*_, _-_, _≤_, _<_, min}
@@ -106,3 +106,10 @@ module _ (two : Bool) {w h gx gy by len room : ℕ} (r : Ready two w h gx gy by 
 
   pub some-columns : 0 < gx
   some-columns = power-above gx (r .grid .power-across)
+
+-- a depth by another name
+pub at-depth : {two other : Bool} {w h gx gy by len room : ℕ} → two ≡ other → Ready two w h gx gy by len room → Ready other w h gx gy by len room
+at-depth e r = rw e at r
+
+pub of-depth : {two other : Bool} (w h gx gy by : ℕ) (d old : List ℕ) {new : List ℕ} → two ≡ other → new ≡ withBlockRow other w h gx gy by d old → new ≡ withBlockRow two w h gx gy by d old
+of-depth w h gx gy by d old e q = q ∙ ap (λ (two : Bool). withBlockRow two w h gx gy by d old) (sym e)

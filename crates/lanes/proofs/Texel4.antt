@@ -37,7 +37,7 @@ code-at m x y =
     ap (λ (n : ℕ). n % 4) (shr-shr m (8 * y) (2 * x) ∙ ap (λ (n : ℕ). m / 2 ^ n) e)
 
 -- the mode is the low bit of byte 4
-mode-is : (w : List ℕ) → mode w ≡ eqb (getD w 4 0 % 2) 1
+pub mode-is : (w : List ℕ) → mode w ≡ eqb (getD w 4 0 % 2) 1
 mode-is w =
     let e : (getD w 4 0 + 256 * getD w 5 0) / 2 ^ 0 % 2 ≡ getD w 4 0 % 2 = omega arith in
     ap (λ (n : ℕ). eqb n 1) e
@@ -102,8 +102,8 @@ codes-are d z e0 e1 e2 e3 e4 =
     rw (byte-of d z 0, byte-of d z 1, byte-of d z 2, byte-of d z 3, byte-of d z 4, first, e0, e1, e2, e3, e4)
 
 -- every place of the tables
-pub weights-le : (k : ℕ) → k < 8 → getD weights k 0 ≤ 8
-weights-le k h = leb→le (getD weights k 0) 8 (below (λ j. leb (getD weights j 0) 8) 8 tt k h)
+pub weights-le : (k : ℕ) → k < 8 → getD weights k 0 ≤ 15
+weights-le k h = leb→le (getD weights k 0) 15 (below (λ j. leb (getD weights j 0) 15) 8 tt k h)
 
 pub keeps-mask : (k : ℕ) → k < 8 → Mask (getD keeps k 0)
 keeps-mask k h =

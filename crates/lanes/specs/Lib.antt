@@ -1,4 +1,5 @@
 pub mod Column
+pub mod Eight
 pub mod Four
 pub mod Lanes
 pub mod Strip

@@ -5,7 +5,7 @@ ghost use Prim.Native.Nat.{_+_, _*_, _<_, _≤_};
 ghost use lib.ListN.{length, getD};
 ghost use Rattle.word.specs.Word.{colorOf, blueA, blueB};
 ghost use Rattle.lanes.specs.Lanes.{bytes, colorLanes, fitted, mixedLanes, Mask};
-ghost use Rattle.lanes.specs.Column.{lanesA, lanesB, columnOf, Fits};
+ghost use Rattle.lanes.specs.Column.{lanesA, lanesB, columnOf, rowA, rowB, most, Fits};
 
 const BYTES: u64 = 0x00ff00ff00ff00ff;
 
@@ -20,9 +20,18 @@ pub fn fit_4bpp(z: u64) -> u64
     (33 * t + (t & TOP)) / 64 & BYTES
 }
 
+// The same at 2bpp.
+pub fn fit_2bpp(z: u64) -> u64
+    requires { ⌜ z ≤ 288230376151711744 ⌝ }
+    ensures { λ r. ⌜ (r ≡ fitted 4 z) × (r ≤ bytes) ⌝ }
+{
+    let t = z & 0xfffcfffcfffcfffc;
+    (33 * t + (t & TOP)) / 128 & BYTES
+}
+
 // The blend of two at the weight w, as a word.
 pub fn mix(a: u64, b: u64, w: u64, keep: u64) -> u32
-    requires { ⌜ (a ≤ bytes) × (b ≤ bytes) × (w ≤ 8) × Mask keep ⌝ }
+    requires { ⌜ (a ≤ bytes) × (b ≤ bytes) × (w ≤ 15) × Mask keep ⌝ }
     ensures { λ r. ⌜ r ≡ mixedLanes a b w keep ⌝ }
 {
     let t = ((b + 0x0800080008000800 - a) * w + 8 * a) / 8 & keep;
@@ -107,4 +116,31 @@ pub fn summed(d: &[u8], p: usize, q: usize, s: usize) -> Column
         b2: 4 * bq,
         b3: 3 * bq + b_s,
     }
+}
+
+// Row j of a column: of colour A, and of B.
+pub fn row_a(k: Column, j: usize) -> u64
+    requires { ⌜ Fits k × (j < 4) ⌝ }
+    ensures { λ r. ⌜ (r ≡ rowA k j) × (r ≤ most) ⌝ }
+{
+    if j == 0 {
+        return k.a0;
+    }
+    if j == 1 {
+        return k.a1;
+    }
+    if j == 2 { k.a2 } else { k.a3 }
+}
+
+pub fn row_b(k: Column, j: usize) -> u64
+    requires { ⌜ Fits k × (j < 4) ⌝ }
+    ensures { λ r. ⌜ (r ≡ rowB k j) × (r ≤ most) ⌝ }
+{
+    if j == 0 {
+        return k.b0;
+    }
+    if j == 1 {
+        return k.b1;
+    }
+    if j == 2 { k.b2 } else { k.b3 }
 }

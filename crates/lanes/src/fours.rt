@@ -7,6 +7,8 @@ use crate::Strip;
 use crate::colors::byte;
 use crate::colors::fit_4bpp;
 use crate::colors::mix;
+use crate::colors::row_a;
+use crate::colors::row_b;
 use crate::places::column_at;
 use crate::places::next_column;
 use crate::places::part_across;
@@ -18,7 +20,7 @@ ghost use Prim.Native.Nat.{_+_, _*_, _%_, _<_, _≤_};
 ghost use lib.ListN.{length, getD};
 ghost use Rattle.paint.specs.Paint.{painted};
 ghost use Rattle.lanes.specs.Column.{wordAt, RowFits, Fits};
-ghost use Rattle.lanes.specs.Four.{weights, keeps, codesOf, inRow4, rowOf4, inBlock4, fourAt};
+ghost use Rattle.lanes.specs.Four.{weights, keeps, codesOf, rowOf4, inBlock4, fourAt};
 ghost use Rattle.lanes.specs.Lanes.{texelLanes};
 ghost use Rattle.lanes.specs.Strip.{InStrip, placeIn, SpotFits, withRow, Ready, withBlockRow};
 
@@ -115,35 +117,37 @@ fn lay_4bpp(t: Four, columns: usize, at: usize, image: &mut [u32])
     }
 }
 
-// Row j of a block, if the picture has it.
+// Row j of the block of the column c, between l and r, if the picture has it.
 fn lay_row_4bpp(
     wt: &[u64; 8],
     kt: &[u64; 8],
-    la: u64,
-    ca: u64,
-    ra: u64,
-    lb: u64,
-    cb: u64,
-    rb: u64,
-    m: u64,
-    s: u64,
+    l: Column,
+    c: Column,
+    r: Column,
+    k: Codes,
     p: Spot,
     j: usize,
     image: &mut [u32],
 )
     requires { ⌜ (now wt ≡ weights) × (now kt ≡ keeps) ⌝ }
-    requires { ⌜ RowFits la ca ra lb cb rb × (s ≤ 4) ⌝ }
+    requires { ⌜ Fits l × Fits c × Fits r × (k .s ≤ 4) ⌝ }
     requires { ⌜ SpotFits p 4 (length (now image)) × (j < 4) ⌝ }
-    ensures { λ _. ⌜ now (image .exit) ≡ withRow p j (inRow4 la ca ra lb cb rb m s) (now (image .entry)) ⌝ }
+    ensures { λ _. ⌜ now (image .exit) ≡ withRow p j (λ x. inBlock4 l c r k x j) (now (image .entry)) ⌝ }
 {
     if j >= p.rows {
         return;
     }
-    let t = row_4bpp(wt, kt, la, ca, ra, lb, cb, rb, m, s);
+    let la = row_a(l, j);
+    let ca = row_a(c, j);
+    let ra = row_a(r, j);
+    let lb = row_b(l, j);
+    let cb = row_b(c, j);
+    let rb = row_b(r, j);
+    let t = row_4bpp(wt, kt, la, ca, ra, lb, cb, rb, k.m >> (8 * j), k.s);
     lay_4bpp(t, p.columns, p.at + j * p.width, image);
 }
 
-// The block of the column c, between l and r.
+// The whole block.
 fn lay_block_4bpp(
     wt: &[u64; 8],
     kt: &[u64; 8],
@@ -159,66 +163,10 @@ fn lay_block_4bpp(
     requires { ⌜ SpotFits p 4 (length (now image)) ⌝ }
     ensures { λ _. ⌜ now (image .exit) ≡ painted (p .at) (p .width) (p .columns) (p .rows) (inBlock4 l c r k) (now (image .entry)) ⌝ }
 {
-    lay_row_4bpp(
-        wt,
-        kt,
-        l.a0,
-        c.a0,
-        r.a0,
-        l.b0,
-        c.b0,
-        r.b0,
-        k.m,
-        k.s,
-        p,
-        0,
-        image,
-    );
-    lay_row_4bpp(
-        wt,
-        kt,
-        l.a1,
-        c.a1,
-        r.a1,
-        l.b1,
-        c.b1,
-        r.b1,
-        k.m / 256,
-        k.s,
-        p,
-        1,
-        image,
-    );
-    lay_row_4bpp(
-        wt,
-        kt,
-        l.a2,
-        c.a2,
-        r.a2,
-        l.b2,
-        c.b2,
-        r.b2,
-        k.m / 65536,
-        k.s,
-        p,
-        2,
-        image,
-    );
-    lay_row_4bpp(
-        wt,
-        kt,
-        l.a3,
-        c.a3,
-        r.a3,
-        l.b3,
-        c.b3,
-        r.b3,
-        k.m / 16777216,
-        k.s,
-        p,
-        3,
-        image,
-    );
+    lay_row_4bpp(wt, kt, l, c, r, k, p, 0, image);
+    lay_row_4bpp(wt, kt, l, c, r, k, p, 1, image);
+    lay_row_4bpp(wt, kt, l, c, r, k, p, 2, image);
+    lay_row_4bpp(wt, kt, l, c, r, k, p, 3, image);
 }
 
 // The codes of the word in column x.

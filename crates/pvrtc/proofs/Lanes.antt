@@ -1,6 +1,5 @@
 -- How a row of blocks in lanes is one of the picture. Assumes nothing.
 use mathlib.Core.Path.{_≡_}
-use mathlib.Core.Bool.{Bool}
 use mathlib.Core.List.{List}
 use Prim.Native.Nat.{ℕ, _<_}
 use native.Mathlib.Omega.{arith}
@@ -32,6 +31,6 @@ for-lanes {p} {nx} {ny} {len} {room} {by} r h =
     }
 
 -- and what they lay is the picture's row of blocks
-pub of-lanes : (p : Picture) (d : List ℕ) (by : ℕ) (old : List ℕ) {two : Bool} {nx ny : ℕ} {new : List ℕ} → p .is2bpp ≡ two → nx ≡ across p → ny ≡ down p
-    → new ≡ lanes.withBlockRow two (p .width) (p .height) nx ny by d old → new ≡ withBlockRow p d by old
-of-lanes p d by old e ex ey n = rw (← e) at (rw (ex, ey) at n)
+pub of-lanes : (p : Picture) (d : List ℕ) (by : ℕ) (old : List ℕ) {nx ny : ℕ} {new : List ℕ} → nx ≡ across p → ny ≡ down p
+    → new ≡ lanes.withBlockRow (p .is2bpp) (p .width) (p .height) nx ny by d old → new ≡ withBlockRow p d by old
+of-lanes p d by old ex ey n = rw (ex, ey) at n

@@ -11,19 +11,7 @@ ghost use mathlib.Core.Path.{_≡_};
 ghost use Rattle.pvrtc.specs.Calls.{picture, BlockDecoded};
 ghost use Rattle.pvrtc.specs.Inner.{Ready, withBlockRow};
 
-// Row `by` of blocks, laid into the image: in lanes where there are lanes for the depth.
-fn fast_block_row(data: &[u8], p: Picture, nx: usize, ny: usize, by: usize, image: &mut [u32])
-    requires { ⌜ Ready p nx ny (length (now «data»)) (length (now image)) × (by < ny) ⌝ }
-    ensures { λ _. ⌜ now (image .exit) ≡ withBlockRow p (now («data» .entry)) by (now (image .entry)) ⌝ }
-{
-    if p.is2bpp {
-        plain_block_row(data, p, nx, ny, by, image);
-    } else {
-        lanes::decode_block_row_4bpp(data, p.width, p.height, nx, ny, by, image);
-    }
-}
-
-// Row `by` of blocks, laid into the image, fast or plainly.
+// Row `by` of blocks, laid into the image, in lanes or plainly.
 fn decode_block_row(
     data: &[u8],
     p: Picture,
@@ -39,11 +27,11 @@ fn decode_block_row(
     if plain {
         plain_block_row(data, p, nx, ny, by, image);
     } else {
-        fast_block_row(data, p, nx, ny, by, image);
+        lanes::decode_block_row(data, p.width, p.height, p.is2bpp, nx, ny, by, image);
     }
 }
 
-// All texels of a picture into lent words, fast or plainly.
+// All texels of a picture into lent words, in lanes or plainly.
 fn decode_picture(
     data: &[u8],
     width: usize,

@@ -1,0 +1,137 @@
+-- A block at 2bpp from the window: rows of weights as the bytes of one number. Assumes nothing: these are definitions.
+use mathlib.Core.Bool.{Bool, true, cond, _&&_, _||_}
+use mathlib.Core.List.{List, [], _∷_}
+use Prim.Native.Nat.{ℕ, _+_, _-_, _*_, _/_, _%_, _^_, _≤_}
+use lib.Bits.{bitAnd}
+use lib.Dec.{eqb}
+use lib.ListN.{getD}
+use Rattle.facts.specs.Bits.{isSet}
+use Rattle.word.specs.Word.{modulation, code, standardWeight, holdsCode, adjusted, wordOf}
+use Rattle.lanes.specs.declared.Column.{Column}
+use Rattle.lanes.specs.declared.Eight.{Eight}
+use Rattle.lanes.specs.declared.Own.{Own}
+use Rattle.lanes.specs.declared.Rows.{Rows}
+use Rattle.lanes.specs.Column.{rowA, rowB}
+use Rattle.lanes.specs.Lanes.{bytes, shared, texelLanes}
+
+-- Numbers as the bytes of one, from the low end.
+abbrev pub row : List ℕ → ℕ
+row [] = 0
+row (x ∷ xs) = x + 256 * row xs
+
+-- Eight of them.
+unfoldable pub inBytes : (ℕ → ℕ) → ℕ
+inBytes f = row (f 0 ∷ f 1 ∷ f 2 ∷ f 3 ∷ f 4 ∷ f 5 ∷ f 6 ∷ f 7 ∷ [])
+
+-- Row y of a word's stored weights.
+unfoldable pub weightRow : List ℕ → ℕ → ℕ
+weightRow w y = inBytes (λ x. getD (wordOf true w .weight) (8 * y + x) 0)
+
+-- The four rows.
+unfoldable pub rowsOf : List ℕ → Rows
+rowsOf w = record { w0 = weightRow w 0; w1 = weightRow w 1; w2 = weightRow w 2; w3 = weightRow w 3 }
+
+-- Weight x of row y by byte b of the modulation alone, in mode 1 if `one`; `bit` is the modulation's bit 0.
+abbrev pub byteWeight : (one : Bool) (y : ℕ) (bit : Bool) (b x : ℕ) → ℕ
+byteWeight one y bit b x =
+    cond one
+    (cond (holdsCode (8 * y + x)) (cond (eqb (8 * y + x) 0 || eqb (8 * y + x) 20 && bit) (adjusted (standardWeight (code b (x / 2)))) (standardWeight (code b (x / 2)))) 0)
+    (cond (isSet b x) 8 0)
+
+-- The row of them.
+unfoldable pub byteRow : (one : Bool) (y : ℕ) (bit : Bool) (b : ℕ) → ℕ
+byteRow one y bit b = inBytes (byteWeight one y bit b)
+
+-- A byte's bits, and its codes, spread to bytes by products.
+unfoldable pub bitsOf : ℕ → ℕ
+bitsOf b = bitAnd ((bitAnd (b * 0x0101010101010101) 0x8040201008040201 + 0x00406070787c7e7f) / 16) 0x0808080808080808
+
+unfoldable pub codesOf : ℕ → ℕ
+codesOf b = 3 * bitAnd (b * 0x0000040010004001) 0x0001000100010001 + 5 * (bitAnd (b * 0x0000040010004001) 0x0002000200020002 / 2)
+
+-- What a block has besides its rows: the rows over its upper and lower edge, its mode, and how often the weights beside a texel, and
+-- those above and below it, count where it is filled.
+unfoldable pub ownOf : (above own below : List ℕ) → Own
+ownOf above own below =
+    let bit = modulation own % 2 in
+    let high = modulation own / 1048576 % 2 in
+    record {
+      up = weightRow above 3;
+      dn = weightRow below 0;
+      one = getD own 4 0 % 2;
+      hx = 1 + bit - 2 * bit * high;
+      vx = 1 - bit + 2 * bit * high;
+    }
+
+-- Each weight's two neighbours beside it, added; l and r are the rows of the blocks to either side.
+abbrev pub besideRow : ℕ → ℕ → ℕ → ℕ
+besideRow l c r = (c % 72057594037927936 * 256 + l / 72057594037927936) + (c / 256 + r % 256 * 72057594037927936)
+
+-- A row filled by one sum, for any rule: u and e are the rows above and below.
+unfoldable pub filledRow : (hx vx keep l c r u e : ℕ) → ℕ
+filledRow hx vx keep l c r u e = c + bitAnd ((hx * besideRow l c r + vx * (u + e) + 0x0202020202020202) / 4) keep
+
+-- The places that are filled: none in mode 0, and of each row every other.
+abbrev pub odds : ℕ
+odds = 0x0f000f000f000f00
+
+abbrev pub evens : ℕ
+evens = 0x000f000f000f000f
+
+-- The four rows of a block's weights, filled; l, c and r are the stored rows of the three blocks.
+unfoldable pub filledRows : Rows → Rows → Rows → Own → Rows
+filledRows l c r k =
+    record {
+      w0 = filledRow (k .hx) (k .vx) (k .one * odds) (l .w0) (c .w0) (r .w0) (k .up) (c .w1);
+      w1 = filledRow (k .hx) (k .vx) (k .one * evens) (l .w1) (c .w1) (r .w1) (c .w0) (c .w2);
+      w2 = filledRow (k .hx) (k .vx) (k .one * odds) (l .w2) (c .w2) (r .w2) (c .w1) (c .w3);
+      w3 = filledRow (k .hx) (k .vx) (k .one * evens) (l .w3) (c .w3) (r .w3) (c .w2) (k .dn);
+    }
+
+-- Row y of four.
+unfoldable pub rowAt : Rows → ℕ → ℕ
+rowAt k y = getD (k .w0 ∷ k .w1 ∷ k .w2 ∷ k .w3 ∷ []) y 0
+
+-- Texel x of a row with the weights `ws`.
+unfoldable pub inRow2 : (l c r u v w ws x : ℕ) → ℕ
+inRow2 l c r u v w ws x = texelLanes 4 (shared 4 x l c r) (shared 4 x u v w) (ws / 256 ^ x % 16) bytes
+
+-- Texel (x, y) of the block between the columns l and r.
+abbrev pub inBlock2 : Column → Column → Column → Rows → ℕ → ℕ → ℕ
+inBlock2 l c r k x y = inRow2 (rowA l y) (rowA c y) (rowA r y) (rowB l y) (rowB c y) (rowB r y) (rowAt k y) x
+
+-- The eight texels of such a row, and eight words by place.
+unfoldable pub rowOf2 : (l c r u v w ws : ℕ) → Eight
+rowOf2 l c r u v w ws =
+    record {
+      t0 = inRow2 l c r u v w ws 0;
+      t1 = inRow2 l c r u v w ws 1;
+      t2 = inRow2 l c r u v w ws 2;
+      t3 = inRow2 l c r u v w ws 3;
+      t4 = inRow2 l c r u v w ws 4;
+      t5 = inRow2 l c r u v w ws 5;
+      t6 = inRow2 l c r u v w ws 6;
+      t7 = inRow2 l c r u v w ws 7;
+    }
+
+unfoldable pub eightAt : Eight → ℕ → ℕ
+eightAt t x = getD (t .t0 ∷ t .t1 ∷ t .t2 ∷ t .t3 ∷ t .t4 ∷ t .t5 ∷ t .t6 ∷ t .t7 ∷ []) x 0
+
+-- A row whose every byte is at most 8, as far as the sums need to know it.
+pub record LowRow (c : ℕ) : Type 0 where
+  pub all : c ≤ 0x0808080808080808
+  pub rest : c % 72057594037927936 ≤ 0x0008080808080808
+  pub first : c % 256 ≤ 8
+
+pub record LowRows (k : Rows) : Type 0 where
+  pub w0 : LowRow (k .w0)
+  pub w1 : LowRow (k .w1)
+  pub w2 : LowRow (k .w2)
+  pub w3 : LowRow (k .w3)
+
+pub record LowOwn (k : Own) : Type 0 where
+  pub up : LowRow (k .up)
+  pub dn : LowRow (k .dn)
+  pub one : k .one ≤ 1
+  pub hx : k .hx ≤ 2
+  pub vx : k .vx ≤ 2
