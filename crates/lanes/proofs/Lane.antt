@@ -2,7 +2,7 @@
 use mathlib.Core.Path.{_≡_, refl, ap, ap₂, _∙_}
 use mathlib.Core.Bool.{Bool, true, false, cond}
 use Prim.Native.Nat.{ℕ, _+_, _*_, _/_, _%_, _-_, _≤_, _<_}
-use native.Mathlib.Nat.{add-mul, mul-add, mul-assoc, mul-le-mul, mul-le-mul-right}
+use native.Mathlib.Nat.{add-mul, mul-add, mul-assoc, mul-le-mul, mul-le-mul-right, add-mul-div-right, add-mul-mod-self-right, div-add-mod', mod-lt, mul-le-mul-left}
 use native.Mathlib.Omega.{arith}
 use lib.Bits.{bitAnd, and-block, and-high, and-le-l, and-le-r, and-mask, and-mod, and-zero-r}
 use Rattle.grid.specs.Grid.{half}
@@ -66,52 +66,39 @@ grown-lanes b r g a hb hr hg ha =
     sum : (b r g a : ℕ) → 33 * lanes b r g a + lanes 0 0 0 a ≡ lanes (33 * b) (33 * r) (33 * g) (34 * a)
     sum b r g a = omega arith
 
--- a lane divided: what crosses from the lane above lies above the byte
+-- a lane divided by p, which goes q times into a lane: what crosses from the lane above lies above the byte
+module _ (p q : ℕ) (pos : 0 < p) (e : q * p ≡ 65536) where
+  times : (x rest : ℕ) → x + 65536 * rest ≡ x + q * rest * p
+  times x rest = omega (arith, ap (λ (n : ℕ). n * rest) e)
 
-cut64 : (x rest : ℕ) → (x + 65536 * rest) / 64 ≡ (x / 64 + 1024 * (rest % 64)) + 65536 * (rest / 64)
-cut64 x rest = omega arith
+  cut : (x rest : ℕ) → (x + 65536 * rest) / p ≡ (x / p + q * (rest % p)) + 65536 * (rest / p)
+  cut x rest =
+      let r = ap (λ (n : ℕ). q * n) (div-add-mod' rest p) in
+      let t = ap (λ (n : ℕ). n * (rest / p)) e in
+      ap (λ (n : ℕ). n / p) (times x rest) ∙ add-mul-div-right x (q * rest) pos ∙ omega arith
 
-low64 : (x rest : ℕ) → (x + 65536 * rest) % 64 ≡ x % 64
-low64 x rest = omega arith
+  low : (x rest : ℕ) → (x + 65536 * rest) % p ≡ x % p
+  low x rest = ap (λ (n : ℕ). n % p) (times x rest) ∙ add-mul-mod-self-right x (q * rest) p
 
-cut128 : (x rest : ℕ) → (x + 65536 * rest) / 128 ≡ (x / 128 + 512 * (rest % 128)) + 65536 * (rest / 128)
-cut128 x rest = omega arith
+  divided : (b r g a : ℕ) → lanes b r g a / p ≡ lanes (b / p + q * (r % p)) (r / p + q * (g % p)) (g / p + q * (a % p)) (a / p)
+  divided b r g a = rw (cut b (r + 65536 * (g + 65536 * a)), low r (g + 65536 * a), cut r (g + 65536 * a), low g a, cut g a)
 
-low128 : (x rest : ℕ) → (x + 65536 * rest) % 128 ≡ x % 128
-low128 x rest = omega arith
+  -- a quotient of 8 bits is what the mask keeps
+  module _ (s : ℕ) (es : q ≡ 256 * s) (some : 0 < s) where
+    kept : (x y : ℕ) → x / p < 256 → (x / p + q * (y % p)) % 256 ≡ x / p
+    kept x y h = omega (arith, ap (λ (n : ℕ). n * (y % p)) es)
 
-cut8 : (x rest : ℕ) → (x + 65536 * rest) / 8 ≡ (x / 8 + 8192 * (rest % 8)) + 65536 * (rest / 8)
-cut8 x rest = omega arith
+    within-lane : (x y : ℕ) → x / p < 256 → x / p + q * (y % p) < 65536
+    within-lane x y h =
+        let less = mod-lt y pos in
+        let below : y % p + 1 ≤ p = omega arith in
+        omega (arith, mul-le-mul-left q below)
 
-low8 : (x rest : ℕ) → (x + 65536 * rest) % 8 ≡ x % 8
-low8 x rest = omega arith
-
-div64 : (b r g a : ℕ) → lanes b r g a / 64 ≡ lanes (b / 64 + 1024 * (r % 64)) (r / 64 + 1024 * (g % 64)) (g / 64 + 1024 * (a % 64)) (a / 64)
-div64 b r g a = rw (cut64 b (r + 65536 * (g + 65536 * a)), low64 r (g + 65536 * a), cut64 r (g + 65536 * a), low64 g a, cut64 g a)
-
-div128 : (b r g a : ℕ) → lanes b r g a / 128 ≡ lanes (b / 128 + 512 * (r % 128)) (r / 128 + 512 * (g % 128)) (g / 128 + 512 * (a % 128)) (a / 128)
-div128 b r g a = rw (cut128 b (r + 65536 * (g + 65536 * a)), low128 r (g + 65536 * a), cut128 r (g + 65536 * a), low128 g a, cut128 g a)
-
-div8 : (b r g a : ℕ) → lanes b r g a / 8 ≡ lanes (b / 8 + 8192 * (r % 8)) (r / 8 + 8192 * (g % 8)) (g / 8 + 8192 * (a % 8)) (a / 8)
-div8 b r g a = rw (cut8 b (r + 65536 * (g + 65536 * a)), low8 r (g + 65536 * a), cut8 r (g + 65536 * a), low8 g a, cut8 g a)
-
-kept64 : (x y : ℕ) → x < 16384 → (x / 64 + 1024 * (y % 64)) % 256 ≡ x / 64
-kept64 x y h = omega arith
-
-kept128 : (x y : ℕ) → x < 32768 → (x / 128 + 512 * (y % 128)) % 256 ≡ x / 128
-kept128 x y h = omega arith
-
-fit64 : (b r g a : ℕ) → b < 16384 → r < 16384 → g < 16384 → a < 16384 → bitAnd (lanes b r g a / 64) bytes ≡ lanes (b / 64) (r / 64) (g / 64) (a / 64)
-fit64 b r g a hb hr hg ha =
-    ap (λ (x : ℕ). bitAnd x bytes) (div64 b r g a)
-    ∙ and-bytes (b / 64 + 1024 * (r % 64)) (r / 64 + 1024 * (g % 64)) (g / 64 + 1024 * (a % 64)) (a / 64) (omega arith) (omega arith) (omega arith)
-    ∙ same (kept64 b r hb) (kept64 r g hr) (kept64 g a hg) (omega arith)
-
-fit128 : (b r g a : ℕ) → b < 32768 → r < 32768 → g < 32768 → a < 32768 → bitAnd (lanes b r g a / 128) bytes ≡ lanes (b / 128) (r / 128) (g / 128) (a / 128)
-fit128 b r g a hb hr hg ha =
-    ap (λ (x : ℕ). bitAnd x bytes) (div128 b r g a)
-    ∙ and-bytes (b / 128 + 512 * (r % 128)) (r / 128 + 512 * (g % 128)) (g / 128 + 512 * (a % 128)) (a / 128) (omega arith) (omega arith) (omega arith)
-    ∙ same (kept128 b r hb) (kept128 r g hr) (kept128 g a hg) (omega arith)
+    fit-lanes : (b r g a : ℕ) → b / p < 256 → r / p < 256 → g / p < 256 → a / p < 256 → bitAnd (lanes b r g a / p) bytes ≡ lanes (b / p) (r / p) (g / p) (a / p)
+    fit-lanes b r g a hb hr hg ha =
+        ap (λ (x : ℕ). bitAnd x bytes) (divided b r g a)
+        ∙ and-bytes (b / p + q * (r % p)) (r / p + q * (g % p)) (g / p + q * (a % p)) (a / p) (within-lane b r hb) (within-lane r g hr) (within-lane g a hg)
+        ∙ same (kept b r hb) (kept r g hr) (kept g a hg) (omega arith)
 
 -- sums as lanes, alpha's doubled; four numbers of 8 bits as lanes
 abbrev pub sumLanes : PVRTCTexelColorInt → ℕ
@@ -127,13 +114,13 @@ fits false s l =
     let hb = l .b in let hr = l .r in let hg = l .g in let ha = l .a in
     ap (λ (x : ℕ). bitAnd (grown x / 64) bytes) (and-multiples false (s .b) (s .r) (s .g) (2 * s .a) (omega arith) (omega arith) (omega arith) (omega arith))
     ∙ ap (λ (x : ℕ). bitAnd (x / 64) bytes) (grown-lanes (s .b / 2 * 2) (s .r / 2 * 2) (s .g / 2 * 2) (2 * s .a / 2 * 2) (omega arith) (omega arith) (omega arith) (omega arith))
-    ∙ fit64 (33 * (s .b / 2 * 2)) (33 * (s .r / 2 * 2)) (33 * (s .g / 2 * 2)) (34 * (2 * s .a / 2 * 2)) (omega arith) (omega arith) (omega arith) (omega arith)
+    ∙ fit-lanes 64 1024 (omega arith) refl 4 refl (omega arith) (33 * (s .b / 2 * 2)) (33 * (s .r / 2 * 2)) (33 * (s .g / 2 * 2)) (34 * (2 * s .a / 2 * 2)) (omega arith) (omega arith) (omega arith) (omega arith)
     ∙ same (omega arith) (omega arith) (omega arith) (omega arith)
 fits true s l =
     let hb = l .b in let hr = l .r in let hg = l .g in let ha = l .a in
     ap (λ (x : ℕ). bitAnd (grown x / 128) bytes) (and-multiples true (s .b) (s .r) (s .g) (2 * s .a) (omega arith) (omega arith) (omega arith) (omega arith))
     ∙ ap (λ (x : ℕ). bitAnd (x / 128) bytes) (grown-lanes (s .b / 4 * 4) (s .r / 4 * 4) (s .g / 4 * 4) (2 * s .a / 4 * 4) (omega arith) (omega arith) (omega arith) (omega arith))
-    ∙ fit128 (33 * (s .b / 4 * 4)) (33 * (s .r / 4 * 4)) (33 * (s .g / 4 * 4)) (34 * (2 * s .a / 4 * 4)) (omega arith) (omega arith) (omega arith) (omega arith)
+    ∙ fit-lanes 128 512 (omega arith) refl 2 refl (omega arith) (33 * (s .b / 4 * 4)) (33 * (s .r / 4 * 4)) (33 * (s .g / 4 * 4)) (34 * (2 * s .a / 4 * 4)) (omega arith) (omega arith) (omega arith) (omega arith)
     ∙ same (omega arith) (omega arith) (omega arith) (omega arith)
 
 -- the blend by one product
@@ -202,7 +189,7 @@ module _ (s t : PVRTCTexelColorInt) (w : ℕ) (hs : Bytes s) (ht : Bytes t) (hw 
       ap (λ (x : ℕ). (x * w + 8 * plain s) / 8) (apart (s .b) (s .r) (s .g) (s .a) (t .b) (t .r) (t .g) (t .a) (hs .b) (hs .r) (hs .g) (hs .a))
       ∙ ap (λ (x : ℕ). (x + 8 * plain s) / 8) (times-lanes (t .b + 2048 - s .b) (t .r + 2048 - s .r) (t .g + 2048 - s .g) (t .a + 2048 - s .a) w)
       ∙ ap (λ (x : ℕ). x / 8) (join8 ((t .b + 2048 - s .b) * w) ((t .r + 2048 - s .r) * w) ((t .g + 2048 - s .g) * w) ((t .a + 2048 - s .a) * w) (s .b) (s .r) (s .g) (s .a))
-      ∙ div8 lb lr lg la
+      ∙ divided 8 8192 (omega arith) refl lb lr lg la
 
   -- what is kept of it is the texel's word
   pub mix-is : (p : Bool) → mixedLanes (plain s) (plain t) w (cond p clear bytes) ≡ packed (blend (pixel s) (pixel t) w p)

@@ -139,9 +139,6 @@ module _ (d : List ℕ) (z : ℕ) {b0 b1 b2 b3 b4 : ℕ} (h : Held d z b0 b1 b2 
   bit-0 : b0 % 2 ≡ modulation w % 2
   bit-0 = omega (arith, modulation-is)
 
-  bit-20 : b2 / 16 % 2 ≡ modulation w / 1048576 % 2
-  bit-20 = omega (arith, modulation-is, h .l0, h .l1)
-
   set-0 : eqb (b0 % 2) 1 ≡ isSet (modulation w) 0
   set-0 =
       let e : b0 % 2 ≡ modulation w / 2 ^ 0 % 2 = omega (arith, bit-0) in

@@ -11,10 +11,11 @@ use Rattle.lanes.specs.Lanes.{colorLanes, shared}
 abbrev pub wordAt : List ℕ → ℕ → List ℕ
 wordAt d z = drop (8 * z) d
 
--- Colour A, and B, of word z as lanes.
+-- Colour A of word z as lanes.
 unfoldable pub lanesA : List ℕ → ℕ → ℕ
 lanesA d z = colorLanes (colorOf (colorA (wordAt d z)) (blueA (colorA (wordAt d z))))
 
+-- Colour B of word z as lanes.
 unfoldable pub lanesB : List ℕ → ℕ → ℕ
 lanesB d z = colorLanes (colorOf (colorB (wordAt d z)) (blueB (colorB (wordAt d z))))
 
@@ -32,10 +33,11 @@ columnOf d p q s =
       b3 = shared 2 3 (lanesB d p) (lanesB d q) (lanesB d s);
     }
 
--- Row y of a column: of colour A, and of B.
+-- Row y of a column, of colour A.
 unfoldable pub rowA : Column → ℕ → ℕ
 rowA k y = getD (k .a0 ∷ k .a1 ∷ k .a2 ∷ k .a3 ∷ []) y 0
 
+-- And of colour B.
 unfoldable pub rowB : Column → ℕ → ℕ
 rowB k y = getD (k .b0 ∷ k .b1 ∷ k .b2 ∷ k .b3 ∷ []) y 0
 
@@ -43,6 +45,7 @@ rowB k y = getD (k .b0 ∷ k .b1 ∷ k .b2 ∷ k .b3 ∷ []) y 0
 abbrev pub most : ℕ
 most = 36028797018963968
 
+-- A column whose eight numbers are so small.
 pub record Fits (k : Column) : Type 0 where
   pub a0 : k .a0 ≤ most
   pub a1 : k .a1 ≤ most

@@ -42,10 +42,11 @@ byteWeight one y bit b x =
 unfoldable pub byteRow : (one : Bool) (y : ℕ) (bit : Bool) (b : ℕ) → ℕ
 byteRow one y bit b = inBytes (byteWeight one y bit b)
 
--- A byte's bits, and its codes, spread to bytes by products.
+-- A byte's bits as weights of 0 and 8, by a product.
 unfoldable pub bitsOf : ℕ → ℕ
 bitsOf b = bitAnd ((bitAnd (b * 0x0101010101010101) 0x8040201008040201 + 0x00406070787c7e7f) / 16) 0x0808080808080808
 
+-- A byte's codes as weights at every other place, by a product.
 unfoldable pub codesOf : ℕ → ℕ
 codesOf b = 3 * bitAnd (b * 0x0000040010004001) 0x0001000100010001 + 5 * (bitAnd (b * 0x0000040010004001) 0x0002000200020002 / 2)
 
@@ -71,10 +72,11 @@ besideRow l c r = (c % 72057594037927936 * 256 + l / 72057594037927936) + (c / 2
 unfoldable pub filledRow : (hx vx keep l c r u e : ℕ) → ℕ
 filledRow hx vx keep l c r u e = c + bitAnd ((hx * besideRow l c r + vx * (u + e) + 0x0202020202020202) / 4) keep
 
--- The places that are filled: none in mode 0, and of each row every other.
+-- The places that rows 0 and 2 fill in mode 1.
 abbrev pub odds : ℕ
 odds = 0x0f000f000f000f00
 
+-- And rows 1 and 3.
 abbrev pub evens : ℕ
 evens = 0x000f000f000f000f
 
@@ -100,7 +102,7 @@ inRow2 l c r u v w ws x = texelLanes 4 (shared 4 x l c r) (shared 4 x u v w) (ws
 abbrev pub inBlock2 : Column → Column → Column → Rows → ℕ → ℕ → ℕ
 inBlock2 l c r k x y = inRow2 (rowA l y) (rowA c y) (rowA r y) (rowB l y) (rowB c y) (rowB r y) (rowAt k y) x
 
--- The eight texels of such a row, and eight words by place.
+-- The eight texels of such a row.
 unfoldable pub rowOf2 : (l c r u v w ws : ℕ) → Eight
 rowOf2 l c r u v w ws =
     record {
@@ -114,6 +116,7 @@ rowOf2 l c r u v w ws =
       t7 = inRow2 l c r u v w ws 7;
     }
 
+-- Eight words, by place.
 unfoldable pub eightAt : Eight → ℕ → ℕ
 eightAt t x = getD (t .t0 ∷ t .t1 ∷ t .t2 ∷ t .t3 ∷ t .t4 ∷ t .t5 ∷ t .t6 ∷ t .t7 ∷ []) x 0
 
@@ -123,12 +126,14 @@ pub record LowRow (c : ℕ) : Type 0 where
   pub rest : c % 72057594037927936 ≤ 0x0008080808080808
   pub first : c % 256 ≤ 8
 
+-- Four such rows.
 pub record LowRows (k : Rows) : Type 0 where
   pub w0 : LowRow (k .w0)
   pub w1 : LowRow (k .w1)
   pub w2 : LowRow (k .w2)
   pub w3 : LowRow (k .w3)
 
+-- What a block has besides them, as small.
 pub record LowOwn (k : Own) : Type 0 where
   pub up : LowRow (k .up)
   pub dn : LowRow (k .dn)

@@ -14,17 +14,19 @@ lanes b r g a = b + 65536 * (r + 65536 * (g + 65536 * a))
 abbrev pub colorLanes : PVRTCTexelColor → ℕ
 colorLanes c = lanes (c .b) (c .r) (c .g) (2 * c .a)
 
--- The low byte of each lane, and of each but alpha's.
+-- The low byte of each lane.
 abbrev pub bytes : ℕ
 bytes = 0x00ff00ff00ff00ff
 
+-- The low byte of each lane but alpha's.
 abbrev pub clear : ℕ
 clear = 0x000000ff00ff00ff
 
--- Each lane without its remainder by h; alpha's lane alone.
+-- Each lane without its remainder by h.
 abbrev pub multiples : ℕ → ℕ
 multiples h = lanes (65536 - h) (65536 - h) (65536 - h) (65536 - h)
 
+-- Alpha's lane alone.
 abbrev pub top : ℕ
 top = 0xffff000000000000
 
