@@ -205,13 +205,20 @@ own-are d p q s {b0} {b2} {b4} e0 l1 e2 e4 eu ee =
     )
 
 -- one row of a word
-pub row-3-of : (w : List ℕ) {k : Rows} → (k ≡ rowsOf w) × LowRows k → (k .w3 ≡ weightRow w 3) × LowRow (k .w3)
-unfolding rowsOf
-row-3-of w e = (ap (λ (k : Rows). k .w3) (e .0), e .1 .w3)
+module _ (d : List ℕ) (z : ℕ) (small : (i : ℕ) → getD d i 0 < 256) where
+  pub edge-3 : {b3 b4 r : ℕ} → b3 ≡ getD d (8 * z + 3) 0 → b4 ≡ getD d (8 * z + 4) 0 → r ≡ byteRow (eqb (b4 % 2) 1) 1 false b3 → (r ≡ weightRow (wordAt d z) 3) × LowRow r
+  edge-3 {b3} {b4} e3 e4 er =
+      let h : Held d z (getD d (8 * z) 0) (getD d (8 * z + 1) 0) (getD d (8 * z + 2) 0) b3 b4 =
+      record { e0 = refl; e1 = refl; e2 = refl; e3 = e3; e4 = e4; l0 = small (8 * z); l1 = small (8 * z + 1); l2 = small (8 * z + 2); l3 = rw e3 (small (8 * z + 3)) } in
+      let e = row-3 d z h er in
+      (e, rw e (row-low (wordAt d z) 3 (omega arith)))
 
-pub row-0-of : (w : List ℕ) {k : Rows} → (k ≡ rowsOf w) × LowRows k → (k .w0 ≡ weightRow w 0) × LowRow (k .w0)
-unfolding rowsOf
-row-0-of w e = (ap (λ (k : Rows). k .w0) (e .0), e .1 .w0)
+  pub edge-0 : {b0 b4 r : ℕ} → b0 ≡ getD d (8 * z) 0 → b4 ≡ getD d (8 * z + 4) 0 → r ≡ byteRow (eqb (b4 % 2) 1) 0 false b0 → (r ≡ weightRow (wordAt d z) 0) × LowRow r
+  edge-0 {b0} {b4} e0 e4 er =
+      let h : Held d z b0 (getD d (8 * z + 1) 0) (getD d (8 * z + 2) 0) (getD d (8 * z + 3) 0) b4 =
+      record { e0 = e0; e1 = refl; e2 = refl; e3 = refl; e4 = e4; l0 = rw e0 (small (8 * z)); l1 = small (8 * z + 1); l2 = small (8 * z + 2); l3 = small (8 * z + 3) } in
+      let e = row-0 d z h er in
+      (e, rw e (row-low (wordAt d z) 0 (omega arith)))
 
 -- the sums of a fill fit
 pub beside-le : (l c r : ℕ) → LowRow l → LowRow c → LowRow r → besideRow l c r ≤ 0x1010101010101010

@@ -98,14 +98,16 @@ fn lower_edge(d: &[u8], z: usize) -> u64
     requires { ⌜ 8 * z + 8 ≤ length (now d) ⌝ }
     ensures { λ r. ⌜ (r ≡ weightRow (wordAt (now (d .entry)) z) 3) × LowRow r ⌝ }
 {
-    read_rows(d, z).w3
+    let one = byte(d, 8 * z + 4) % 2;
+    odd_row(byte(d, 8 * z + 3), one)
 }
 
 fn upper_edge(d: &[u8], z: usize) -> u64
     requires { ⌜ 8 * z + 8 ≤ length (now d) ⌝ }
     ensures { λ r. ⌜ (r ≡ weightRow (wordAt (now (d .entry)) z) 0) × LowRow r ⌝ }
 {
-    read_rows(d, z).w0
+    let one = byte(d, 8 * z + 4) % 2;
+    first_row(byte(d, 8 * z), one)
 }
 
 // What the block of word q has besides its rows; p is the word above it, s below.

@@ -1,16 +1,46 @@
 -- `lanes::filling::lower_edge` meets its contract: one of the word's rows. Assumes nothing.
+use native.Mathlib.Omega.{arith}
 use borrow.Author.Needs.{needs}
 use denote.Ref.{now}
-use Rattle.lanes.specs.Column.{wordAt}
-use Rattle.lanes.proofs.Stored.{row-3-of}
+use Rattle.lanes.proofs.Stored.{edge-3}
 use Rattle.lanes.proofs.filling.lower_edge.Statement.{statement}
 use Rattle.lanes.proofs.filling.lower_edge.Tie as tie
 
-read-rows-requires : tie.Need-read-rows-requires
-read-rows-requires c κs = search needs
+mul-byte : tie.Need-mul-byte
+mul-byte c = search needs
+
+add-byte : tie.Need-add-byte
+add-byte c = search needs
+
+byte-requires : tie.Need-byte-requires
+byte-requires c κs = search needs
+
+mul-byte-2 : tie.Need-mul-byte-2
+mul-byte-2 c = search needs
+
+add-byte-2 : tie.Need-add-byte-2
+add-byte-2 c = search needs
+
+byte-requires-2 : tie.Need-byte-requires-2
+byte-requires-2 c κs = search needs
+
+odd-row-requires : tie.Need-odd-row-requires
+odd-row-requires c κs = search needs
 
 returns : tie.Need-returns
-returns c = row-3-of (wordAt (now (c .before .before .args .d)) (c .before .before .args .z)) (c .read-rows .ensures)
+returns c =
+    let a = c .before .before .before .before .args in
+    edge-3 (now (a .d)) (a .z) (λ i. omega (arith, c .before .before .before .shared-slice-known .given i)) (c .before .byte2 .ensures .0) (c .before .before .byte .ensures .0) (c .odd-row .ensures)
 
 pub lower-edge-spec : {M : Type 1} → statement M
-lower-edge-spec = tie.close (tie.spec read-rows-requires returns)
+lower-edge-spec =
+    tie.close
+    (tie.spec
+    mul-byte
+    add-byte
+    byte-requires
+    mul-byte-2
+    add-byte-2
+    byte-requires-2
+    odd-row-requires
+    returns)
