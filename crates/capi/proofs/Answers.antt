@@ -16,10 +16,9 @@ use Rattle.pvr.specs.Header.{bitsOf, headerRefusal, headerNumber, HeaderRead}
 use Rattle.pvr.specs.declared.Header.{Header}
 use Rattle.pvr.specs.declared.Header.the-variants.{Plate, Refused}
 use Rattle.pvr.specs.declared.HeaderRefusal.{HeaderRefusal}
-use Rattle.pvrtc.specs.Calls.{refusal, pictureTexel, TexelRead, Written}
-use Rattle.pvrtc.specs.Refusals.{numberOf, decodedNumber, texelNumber, texelValue, across, down}
+use Rattle.pvrtc.specs.Calls.{refusal, pictureTexel, TexelRead}
+use Rattle.pvrtc.specs.Refusals.{numberOf, texelNumber, texelValue, across, down}
 use Rattle.pvrtc.specs.declared.Call.the-variants as call
-use Rattle.pvrtc.specs.declared.Decoded.{Decoded}
 use Rattle.pvrtc.specs.declared.Picture.{Picture}
 use Rattle.pvrtc.specs.declared.Refusal.{Refusal}
 use Rattle.pvrtc.specs.declared.Texel.{Texel}
@@ -33,11 +32,7 @@ module _ (p : Picture) (d : List ℕ) (x y : ℕ) {r : Texel} (t : TexelRead p d
   pub of-refusal : {f : Refusal} {n : ℕ} → r ≡ texel.Refused f → n ≡ numberOf f → 4294967296 * n ≡ texelAnswer p d x y
   of-refusal e q = omega (arith, ap texelNumber e, ap texelValue e, t .number, t .value)
 
--- a call that writes
-pub of-written : {n k : ℕ} {done old new : List ℕ} {r : Decoded} → Written n done old new r → k ≡ decodedNumber r → Wrote n done old new k
-of-written w e = record { number = e ∙ w .number; words = w .words }
-
--- no two outcomes of one meet its promise
+-- no two outcomes of a call that writes meet its promise
 pub one-wrote : {n r s : ℕ} {done old new new' : List ℕ} → Wrote n done old new r → Wrote n done old new' s → (r ≡ s) × (new ≡ new')
 one-wrote a b = (a .number ∙ sym (b .number), a .words ∙ sym (b .words))
 

@@ -1,14 +1,11 @@
 -- Laws of powers of two. Assumes nothing.
 use mathlib.Core.Path.{_≡_, refl, sym, ap, _∙_}
 use Prim.Native.Nat.{ℕ, zero, suc, _+_, _-_, _*_, _/_, _%_, _^_, _≤_, _<_}
-use native.Mathlib.Nat.{lt-of-not-le, not-le-of-lt, div-div-eq-div-mul, pow-succ'}
+use native.Mathlib.Nat.{not-le-of-lt, div-div-eq-div-mul, pow-succ'}
 use native.Mathlib.Omega.{arith}
-use lib.Pow.{pow-mono, pow-lt, pow-add}
+use lib.Pow.{pow-lt, pow-add}
 
 -- of two powers, the smaller has the smaller exponent
-pub pow-lt-cancel : {a b : ℕ} → 2 ^ a < 2 ^ b → a < b
-pow-lt-cancel h = lt-of-not-le (λ g. not-le-of-lt h (pow-mono g))
-
 pub pow-le-cancel : {a b : ℕ} → 2 ^ a ≤ 2 ^ b → a ≤ b
 pow-le-cancel {a} {b} h =
     let g : ¬ (b < a) = λ l. not-le-of-lt (pow-lt l) h in

@@ -2,7 +2,7 @@
 use mathlib.Core.Path.{_≡_, sym, ap}
 use mathlib.Core.Logic.{⊎-elim}
 use Prim.Native.Nat.{ℕ, _+_, _-_, _*_, _/_, _%_, _≤_, _<_}
-use native.Mathlib.Nat.{div-add-mod', div-lt-iff-lt-mul, div-mul-le-self, lt-div-mul-add, le-div-iff-mul-le, mul-le-mul-right, mul-le-mul-left, mod-lt}
+use native.Mathlib.Nat.{div-add-mod', div-lt-iff-lt-mul, div-mul-le-self, lt-div-mul-add, mul-le-mul-right, mul-le-mul-left, mod-lt}
 use native.Mathlib.Omega.{arith}
 use Rattle.grid.specs.Grid.{blocks}
 use Rattle.facts.proofs.Numbers.{lt-or-le, split}
@@ -20,9 +20,6 @@ module _ (size side : ℕ) (pos : 0 < size) where
   -- there are no more blocks than texels
   pub fits : (side % size ≡ 0 → ⊥) → side / size + 1 ≤ side
   fits n = omega (arith, div-add-mod' side size, mul-le-mul-left (side / size) pos)
-
-  pub blocks-pos : 0 < side → 0 < blocks size side
-  blocks-pos h = le-div-iff-mul-le {x = 1} {y = side + (size - 1)} pos .1 (omega arith)
 
   -- the blocks cover the side, and the last of them starts within it
   pub blocks-cover : side ≤ blocks size side * size

@@ -68,11 +68,6 @@ module _ (p : Picture) where
         let n : p .width ≡ 0 → ⊥ = eqb-false (p .width) 0 (or-left _ (eqb (p .height) 0) e) in
         omega arith
 
-    pub height-above : 0 < p .height
-    height-above =
-        let n : p .height ≡ 0 → ⊥ = eqb-false (p .height) 0 (or-right (eqb (p .width) 0) _ e) in
-        omega arith
-
 pub wide : (two : Bool) → 0 < blockWidth two
 wide two = omega (arith, half-low two)
 

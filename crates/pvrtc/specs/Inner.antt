@@ -6,6 +6,7 @@ use Prim.Native.Nat.{ℕ, _+_, _-_, _*_, _/_, _%_, _≤_, _<_, min}
 use lib.ListN.{drop, replicate}
 use Rattle.facts.specs.Tab.{tab}
 use Rattle.grid.specs.Grid.{half, blockWidth}
+use Rattle.lanes.specs.Strip as strip
 use Rattle.paint.specs.Paint.{painted}
 use Rattle.texel.specs.Inner.{nineOf, Grid}
 use Rattle.texel.specs.Texel.{packed, texelIn}
@@ -37,5 +38,4 @@ withBlock p d bx by old =
 
 -- Row `by` of blocks laid into the image, cut to the picture.
 abbrev pub withBlockRow : Picture → List ℕ → ℕ → List ℕ → List ℕ
-withBlockRow p d by old =
-    painted (by * 4 * p .width) (p .width) (p .width) (min 4 (p .height - by * 4)) (λ x y. pictureTexel p d x (by * 4 + y)) old
+withBlockRow p d by old = strip.withBlockRow (p .is2bpp) (p .width) (p .height) (across p) (down p) by d old
