@@ -1,19 +1,27 @@
 -- Laws of spread bits, and the address by them. Assumes nothing.
 use mathlib.Core.Path.{_≡_, refl, sym, ap, _∙_}
+use mathlib.Core.List.{List}
 use Prim.Native.Nat.{ℕ, zero, suc, _+_, _-_, _*_, _/_, _%_, _^_, _≤_, _<_}
 use native.Mathlib.Nat.{zero-add, suc-add, pow-succ', div-one, mod-lt, div-eq-of-lt, div-add-mod'}
 use native.Mathlib.Numerals.{add-one}
 use native.Mathlib.Omega.{arith}
 use lib.Bits.{bitAnd}
+use lib.ListN.{getD}
 use lib.Pow.{pow-pos, field, mod-mod-pow}
 use Rattle.facts.proofs.Powers.{pow-le-cancel, shift}
-use Rattle.grid.specs.Grid.{log2, address, spreadBits, Placed}
+use Rattle.facts.proofs.Tab.{getD-tab}
+use Rattle.grid.specs.Grid.{log2, address, spreadBits, spreadTable, Placed}
 use Rattle.grid.proofs.Powers.{mask-mod}
 
 pub spread-lt : (k v : ℕ) → spreadBits k v < 4 ^ k
 unfolding spreadBits
 spread-lt zero v = omega arith
 spread-lt (suc k) v = omega (arith, spread-lt k (v / 2))
+
+-- an entry of the table
+pub entry : (table : List ℕ) (b : ℕ) → table ≡ spreadTable → b < 256 → getD table b 0 ≡ spreadBits 8 b
+unfolding spreadTable
+entry table b e l = ap (λ (t : List ℕ). getD t b 0) e ∙ getD-tab (spreadBits 8) 256 b 0 l
 
 -- the low bits, and above them the others
 pub spread-add : (i j v : ℕ) → spreadBits (i + j) v ≡ spreadBits i v + 4 ^ i * spreadBits j (v / 2 ^ i)

@@ -2,8 +2,10 @@
 -- `two` is true at 2bpp and false at 4bpp; gx and gy are the blocks across and down.
 use mathlib.Core.Path.{_≡_}
 use mathlib.Core.Bool.{Bool, true, false, cond}
+use mathlib.Core.List.{List}
 use Prim.Native.Nat.{ℕ, zero, suc, _+_, _-_, _*_, _/_, _%_, _^_, _≤_, _<_, min}
 use lib.Dec.{ltb, leb, eqb}
+use Rattle.facts.specs.Tab.{tab}
 
 -- Half the texels across a block, by which everything that differs with the depth is said.
 abbrev pub half : Bool → ℕ
@@ -96,3 +98,7 @@ beside g q k = (q + k + g - 1) % g
 unfoldable pub spreadBits : ℕ → ℕ → ℕ
 spreadBits zero v = zero
 spreadBits (suc k) v = 4 * spreadBits k (v / 2) + v % 2
+
+-- The table of spread bytes: entry b is the byte b, spread.
+unfoldable pub spreadTable : List ℕ
+spreadTable = tab (spreadBits 8) 256

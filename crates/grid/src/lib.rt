@@ -3,6 +3,7 @@ mod table;
 
 pub use table::morton_index_by_table;
 pub use table::spread;
+pub use table::spread_table;
 ghost use mathlib.Core.Path.{_≡_};
 ghost use Prim.Native.Nat.{_<_};
 ghost use Rattle.grid.specs.Grid.{blockWidth, blocks, log2, Power, isPower, Placed, address, beside};

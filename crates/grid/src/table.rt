@@ -1,29 +1,40 @@
-// The address through a table of spread bytes.
+// The address through a table of spread bytes, which is lent.
 ghost use mathlib.Core.Path.{_≡_};
-ghost use Rattle.grid.specs.Grid.{log2, Placed, address, spreadBits};
+ghost use Prim.Native.Nat.{_<_};
+ghost use Rattle.grid.specs.Grid.{log2, Placed, address, spreadBits, spreadTable};
 
 // The address of block (x, y), as morton_index gives it. What x and y have above the square is a multiple of its side.
-pub fn morton_index_by_table(x: usize, y: usize, min_dim: usize) -> usize
+pub fn morton_index_by_table(table: &[u16; 256], x: usize, y: usize, min_dim: usize) -> usize
+    requires { ⌜ now table ≡ spreadTable ⌝ }
     requires { ⌜ Placed «min_dim» x y ⌝ }
     ensures { λ r. ⌜ r ≡ address (log2 «min_dim») x y ⌝ }
 {
     let low_x = x & (min_dim - 1);
     let low_y = y & (min_dim - 1);
-    ((x - low_x) + (y - low_y)) * min_dim + (spread(low_x) * 2 + spread(low_y))
+    ((x - low_x) + (y - low_y)) * min_dim + (spread(table, low_x) * 2 + spread(table, low_y))
 }
 
 // The sixteen low bits of v, bit i moved to bit 2i.
-pub fn spread(v: usize) -> usize
+pub fn spread(table: &[u16; 256], v: usize) -> usize
+    requires { ⌜ now table ≡ spreadTable ⌝ }
     ensures { λ r. ⌜ r ≡ spreadBits 16 v ⌝ }
 {
-    spread_byte((v % 256) as u8) + spread_byte((v / 256 % 256) as u8) * 65536
+    spread_byte(table, v % 256) + spread_byte(table, v / 256 % 256) * 65536
 }
 
 // The eight bits of b, bit i moved to bit 2i.
-fn spread_byte(b: u8) -> usize
+fn spread_byte(table: &[u16; 256], b: usize) -> usize
+    requires { ⌜ (now table ≡ spreadTable) × (b < 256) ⌝ }
     ensures { λ r. ⌜ r ≡ spreadBits 8 b ⌝ }
 {
-    SPREAD[b as usize] as usize
+    table[b] as usize
+}
+
+// The table, for whoever lends it.
+pub fn spread_table() -> [u16; 256]
+    ensures { λ r. ⌜ r ≡ spreadTable ⌝ }
+{
+    SPREAD
 }
 
 // Entry b is the byte b, spread.

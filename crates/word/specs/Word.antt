@@ -80,12 +80,18 @@ abbrev pub code : ℕ → ℕ → ℕ
 code m k = m / 2 ^ (2 * k) % 4
 
 -- What codes 0..3 mean.
+abbrev pub standardWeights : List ℕ
+standardWeights = 0 ∷ 3 ∷ 5 ∷ 8 ∷ []
+
 abbrev pub standardWeight : ℕ → ℕ
-standardWeight c = getD (0 ∷ 3 ∷ 5 ∷ 8 ∷ []) c 0
+standardWeight c = getD standardWeights c 0
 
 -- What codes 0..3 mean at 4bpp in mode 1.
+abbrev pub punchThroughWeights : List ℕ
+punchThroughWeights = 0 ∷ 4 ∷ 4 ∷ 8 ∷ []
+
 abbrev pub punchThroughWeight : ℕ → ℕ
-punchThroughWeight c = getD (0 ∷ 4 ∷ 4 ∷ 8 ∷ []) c 0
+punchThroughWeight c = getD punchThroughWeights c 0
 
 -- 4bpp: the weight of texel i = 4y + x, in mode 1 if `one`.
 unfoldable pub weight4 : (one : Bool) → ℕ → ℕ → ℕ

@@ -7,7 +7,7 @@ ghost use mathlib.Core.Bool.{cond};
 ghost use Prim.Native.Nat.{ℕ, _+_, _*_, _^_, _<_, _≤_};
 ghost use lib.ListN.{getD};
 ghost use Rattle.word.specs.Word as spec;
-ghost use Rattle.word.specs.Word.{weight4, punch4, withWeights4, standardWeight, stored2, weight2, fill2, withWeights2};
+ghost use Rattle.word.specs.Word.{code, standardWeights, punchThroughWeights, punch4, withWeights4, stored2, weight2, fill2, withWeights2};
 
 const PVRTC1_STANDARD_WEIGHT: [u8; 4] = [0, 3, 5, 8];
 
@@ -36,17 +36,23 @@ fn mode(data: &[u8]) -> bool
     byte_at(data, 4) % 2 == 1
 }
 
-// 4bpp: the weight of texel i.
-fn weight_4bpp(one: bool, m: u32, i: usize) -> u8
-    requires { ⌜ i < 16 ⌝ }
-    ensures { λ r. ⌜ r ≡ weight4 one m i ⌝ }
+// 4bpp: what codes mean, in mode 1 if `one`.
+fn weights_of(one: bool) -> [u8; 4]
+    ensures { λ r. ⌜ r ≡ cond one punchThroughWeights standardWeights ⌝ }
 {
-    let c = ((m >> (2 * i)) % 4) as usize;
     if one {
-        PVRTC1_PUNCHTHROUGH_WEIGHT[c]
+        PVRTC1_PUNCHTHROUGH_WEIGHT
     } else {
-        PVRTC1_STANDARD_WEIGHT[c]
+        PVRTC1_STANDARD_WEIGHT
     }
+}
+
+// 4bpp: the weight of texel i, where the table has what codes mean.
+fn weight_4bpp(table: &[u8; 4], m: u32, i: usize) -> u8
+    requires { ⌜ i < 16 ⌝ }
+    ensures { λ r. ⌜ r ≡ getD (now (table .entry)) (code m i) 0 ⌝ }
+{
+    table[((m >> (2 * i)) % 4) as usize]
 }
 
 // 4bpp: bit i, where texel i is punched through, or 0.
@@ -71,9 +77,10 @@ pub fn get_texel_weights_4bpp(data: &[u8], info: PVRTCTexelInfo) -> PVRTCTexelIn
     let a = info.a;
     let b = info.b;
     let mut weight = info.weight;
+    let table = weights_of(one);
     let mut flag: u32 = 0;
     for i in 0..16 {
-        weight[i] = weight_4bpp(one, m, i);
+        weight[i] = weight_4bpp(&table, m, i);
         flag |= punch_4bpp(one, m, i);
     }
     PVRTCTexelInfo {
@@ -85,13 +92,13 @@ pub fn get_texel_weights_4bpp(data: &[u8], info: PVRTCTexelInfo) -> PVRTCTexelIn
     }
 }
 
-// 2bpp, mode 1: the weight that texel i holds.
-fn stored_weight(m: u32, i: usize) -> u8
-    requires { ⌜ i < 32 ⌝ }
+// 2bpp, mode 1: the weight that texel i holds, where the table has what codes mean.
+fn stored_weight(table: &[u8; 4], m: u32, i: usize) -> u8
+    requires { ⌜ (now table ≡ standardWeights) × (i < 32) ⌝ }
     ensures { λ r. ⌜ r ≡ stored2 m i ⌝ }
 {
     let c = ((m >> (2 * (i / 2))) % 4) as usize;
-    let w = PVRTC1_STANDARD_WEIGHT[c];
+    let w = table[c];
     if i == 0 {
         return (w + 3) & 8;
     }
@@ -104,13 +111,13 @@ fn stored_weight(m: u32, i: usize) -> u8
 }
 
 // 2bpp: the weight of texel i, and 0 where it is to be filled.
-fn weight_2bpp(one: bool, m: u32, i: usize) -> u8
-    requires { ⌜ i < 32 ⌝ }
+fn weight_2bpp(table: &[u8; 4], one: bool, m: u32, i: usize) -> u8
+    requires { ⌜ (now table ≡ standardWeights) × (i < 32) ⌝ }
     ensures { λ r. ⌜ r ≡ weight2 one m i ⌝ }
 {
     if one {
         if (i % 8 + i / 8) % 2 == 0 {
-            return stored_weight(m, i);
+            return stored_weight(table, m, i);
         }
         return 0;
     }
@@ -141,9 +148,10 @@ pub fn get_texel_weights_2bpp(data: &[u8], info: PVRTCTexelInfo) -> PVRTCTexelIn
     let m = modulation(data);
     let a = info.a;
     let b = info.b;
+    let table = PVRTC1_STANDARD_WEIGHT;
     let mut weight = info.weight;
     for i in 0..32 {
-        weight[i] = weight_2bpp(one, m, i);
+        weight[i] = weight_2bpp(&table, one, m, i);
     }
     PVRTCTexelInfo {
         a: a,

@@ -29,7 +29,7 @@ add-result c = search needs
 mul-result : tie.Need-mul-result
 mul-result c =
     let a = c .args in
-    omega (arith, by-table (a .min-dim) (a .x) (a .y) (c .pre), address-small (a .min-dim) (a .x) (a .y) (c .pre))
+    omega (arith, by-table (a .min-dim) (a .x) (a .y) (c .pre .1), address-small (a .min-dim) (a .x) (a .y) (c .pre .1))
 
 spread-requires : tie.Need-spread-requires
 spread-requires c κs = search needs
@@ -37,7 +37,7 @@ spread-requires c κs = search needs
 mul-result-2 : tie.Need-mul-result-2
 mul-result-2 c =
     let a = c .before .args in
-    let p = c .before .pre in
+    let p = c .before .pre .1 in
     omega (arith, by-table (a .min-dim) (a .x) (a .y) p, address-small (a .min-dim) (a .x) (a .y) p)
 
 spread-requires-2 : tie.Need-spread-requires-2
@@ -46,19 +46,19 @@ spread-requires-2 c κs = search needs
 add-result-2 : tie.Need-add-result-2
 add-result-2 c =
     let a = c .before .before .args in
-    let p = c .before .before .pre in
+    let p = c .before .before .pre .1 in
     omega (arith, by-table (a .min-dim) (a .x) (a .y) p, address-small (a .min-dim) (a .x) (a .y) p)
 
 add-result-3 : tie.Need-add-result-3
 add-result-3 c =
     let a = c .before .before .args in
-    let p = c .before .before .pre in
+    let p = c .before .before .pre .1 in
     omega (arith, by-table (a .min-dim) (a .x) (a .y) p, address-small (a .min-dim) (a .x) (a .y) p)
 
 returns : tie.Need-returns
 returns c =
     let a = c .before .before .args in
-    omega (arith, by-table (a .min-dim) (a .x) (a .y) (c .before .before .pre))
+    omega (arith, by-table (a .min-dim) (a .x) (a .y) (c .before .before .pre .1))
 
 pub morton-index-by-table-spec : {M : Type 1} → statement M
 morton-index-by-table-spec =

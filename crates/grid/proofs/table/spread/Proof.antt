@@ -6,14 +6,8 @@ use Rattle.grid.proofs.Spreading.{spread-lt, spread-add, spread-mod}
 use Rattle.grid.proofs.table.spread.Statement.{statement}
 use Rattle.grid.proofs.table.spread.Tie as tie
 
-cast-spread-byte : tie.Need-cast-spread-byte
-cast-spread-byte c = search needs
-
 spread-byte-requires : tie.Need-spread-byte-requires
 spread-byte-requires c κs = search needs
-
-cast-spread-byte-2 : tie.Need-cast-spread-byte-2
-cast-spread-byte-2 c = search needs
 
 spread-byte-requires-2 : tie.Need-spread-byte-requires-2
 spread-byte-requires-2 c κs = search needs
@@ -37,9 +31,7 @@ pub spread-spec : {M : Type 1} → statement M
 spread-spec =
     tie.close
     (tie.spec
-    cast-spread-byte
     spread-byte-requires
-    cast-spread-byte-2
     spread-byte-requires-2
     mul-result
     add-result

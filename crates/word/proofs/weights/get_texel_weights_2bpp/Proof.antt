@@ -22,10 +22,10 @@ ends : (d : List ℕ) (i : PVRTCTexelInfo) {one : Bool} {m : ℕ} {w : List ℕ}
 ends d i e k l h = cc
 
 abbrev Inv-loop : tie.InvT-loop
-Inv-loop «data» one m a b weight₀ i₀ weight i = (i ≤ 32) × Filled (weight2 one m) weight₀ i weight
+Inv-loop «data» one m a b table weight₀ i₀ weight i = (i ≤ 32) × Filled (weight2 one m) weight₀ i weight
 
 abbrev μ-loop : tie.MeasureT-loop
-μ-loop «data» one m a b weight₀ i₀ weight i = 32 - i
+μ-loop «data» one m a b table weight₀ i₀ weight i = 32 - i
 
 mode-requires : tie.Need-mode-requires Inv-loop μ-loop
 mode-requires c κs = search needs
@@ -50,9 +50,9 @@ loop-less c = search needs
 
 loop-again : tie.Need-loop-again Inv-loop μ-loop
 loop-again c =
-    let a = c .before .before .before .before .before .before .before .before .before in
+    let a = c .before .before .before .before .before .before .before .before .before .before in
     let e : length (a .args .info .weight) ≡ 32 = search (needs, a .good .1 .0 .1 .1 .1 .1 .0) in
-    (omega arith, filled-more (c .before .before .loop .inv .1) (c .weight-2bpp .ensures) (omega arith))
+    (omega arith, filled-more (c .before .before .before .loop .inv .1) (c .weight-2bpp .ensures) (omega arith))
 
 fill-2bpp-requires : tie.Need-fill-2bpp-requires Inv-loop μ-loop
 fill-2bpp-requires c κs = search needs

@@ -22,30 +22,30 @@ shr-c c = search needs
 cast-c-2 : tie.Need-cast-c-2
 cast-c-2 c = search needs
 
-array-read-w : tie.Need-array-read-w
-array-read-w c = search needs
+element-copy-out-w : tie.Need-element-copy-out-w
+element-copy-out-w c = search needs
 
 add-result : tie.Need-add-result
-add-result c = omega (arith, standard-le (c .before .args .m) (c .before .args .i / 2))
+add-result c = rw (c .before .before .pre .0) (omega (arith, standard-le (c .before .before .args .m) (c .before .before .args .i / 2)))
 
 returns : tie.Need-returns
 unfolding stored2
-returns c = simp (eq-eqb (c .before .args .i) 0 (omega arith))
+returns c = simp (c .before .before .pre .0, eq-eqb (c .before .before .args .i) 0 (omega arith))
 
 add-result-2 : tie.Need-add-result-2
-add-result-2 c = omega (arith, standard-le (c .before .before .before .args .m) (c .before .before .before .args .i / 2))
+add-result-2 c = rw (c .before .before .before .before .pre .0) (omega (arith, standard-le (c .before .before .before .before .args .m) (c .before .before .before .before .args .i / 2)))
 
 returns-2 : tie.Need-returns-2
 unfolding stored2
-returns-2 c = simp (div-one, ne-eqb _ _ (c .before .before .if1 .left), eq-eqb _ _ (c .before .if2 .taken), eq-eqb _ _ (c .if3 .taken))
+returns-2 c = simp (c .before .before .before .before .pre .0, div-one, ne-eqb _ _ (c .before .before .if1 .left), eq-eqb _ _ (c .before .if2 .taken), eq-eqb _ _ (c .if3 .taken))
 
 returns-3 : tie.Need-returns-3
 unfolding stored2
-returns-3 c = simp (div-one, ne-eqb _ _ (c .before .before .if1 .left), eq-eqb _ _ (c .before .if2 .taken), ne-eqb _ _ (c .if3 .left))
+returns-3 c = simp (c .before .before .before .before .pre .0, div-one, ne-eqb _ _ (c .before .before .if1 .left), eq-eqb _ _ (c .before .if2 .taken), ne-eqb _ _ (c .if3 .left))
 
 returns-4 : tie.Need-returns-4
 unfolding stored2
-returns-4 c = simp (ne-eqb _ _ (c .before .if1 .left), ne-eqb _ _ (c .if2 .left))
+returns-4 c = simp (c .before .before .before .pre .0, ne-eqb _ _ (c .before .if1 .left), ne-eqb _ _ (c .if2 .left))
 
 pub stored-weight-spec : {M : Type 1} → statement M
 stored-weight-spec =
@@ -55,7 +55,7 @@ stored-weight-spec =
     cast-c
     shr-c
     cast-c-2
-    array-read-w
+    element-copy-out-w
     add-result
     returns
     add-result-2
