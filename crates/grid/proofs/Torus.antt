@@ -1,7 +1,8 @@
 -- Laws of neighbours on the torus. Assumes nothing.
 use mathlib.Core.Path.{_≡_, sym, ap, _∙_}
+use mathlib.Core.Logic.{⊎-elim}
 use Prim.Native.Nat.{ℕ, _+_, _-_, _*_, _/_, _%_, _^_, _≤_, _<_}
-use native.Mathlib.Nat.{add-mod-right, add-mul-mod-self-right, div-add-mod', mod-eq-of-lt, mod-lt, mul-le-mul-right}
+use native.Mathlib.Nat.{add-mod-right, add-mul-mod-self-right, div-add-mod', mod-eq-of-lt, mod-lt, mod-self, mul-le-mul-right, eq-or-lt-of-le}
 use native.Mathlib.Omega.{arith}
 use lib.Pow.{pow-pos}
 use Rattle.facts.proofs.Numbers.{split}
@@ -17,6 +18,19 @@ beside-below g q k h = mod-lt (q + k + g - 1) h
 pub beside-own : (g q : ℕ) → q < g → beside g q 1 ≡ q
 unfolding beside
 beside-own g q h = ap (λ (n : ℕ). n % g) (omega arith) ∙ add-mod-right q g ∙ mod-eq-of-lt h
+
+-- the block before the block after a block
+pub back-again : (g q : ℕ) → q < g → beside g (beside g q 2) 0 ≡ q
+unfolding beside
+back-again g q h =
+    ⊎-elim
+    (λ e.
+    let on : (q + 2 + g - 1) % g ≡ 0 = ap (λ (n : ℕ). n % g) (omega arith) ∙ add-mod-right g g ∙ mod-self g in
+    ap (λ (n : ℕ). (n + 0 + g - 1) % g) on ∙ ap (λ (n : ℕ). n % g) (omega arith) ∙ mod-eq-of-lt h)
+    (λ less.
+    let on : (q + 2 + g - 1) % g ≡ q + 1 = ap (λ (n : ℕ). n % g) (omega arith) ∙ add-mod-right (q + 1) g ∙ mod-eq-of-lt (omega arith) in
+    ap (λ (n : ℕ). (n + 0 + g - 1) % g) on ∙ ap (λ (n : ℕ). n % g) (omega arith) ∙ add-mod-right q g ∙ mod-eq-of-lt h)
+    (eq-or-lt-of-le h)
 
 -- a number round g blocks of b: its block goes round, its place in the block stays
 pub round : (b g n : ℕ) → 0 < b → 0 < g → (n % (g * b) / b ≡ n / b % g) × (n % (g * b) % b ≡ n % b)

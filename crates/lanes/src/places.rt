@@ -48,14 +48,15 @@ pub fn row_of_blocks(nx: usize, ny: usize, by: usize) -> Strip
     ensures { λ s. ⌜ s ≡ stripOf nx ny by ⌝ }
 {
     let m = least(nx, ny);
+    let table = grid::spread_table();
     Strip {
         nx: nx,
         ny: ny,
         by: by,
         m: m,
-        u: grid::morton_index_by_table(0, grid::previous_block(by, ny), m),
-        o: grid::morton_index_by_table(0, by, m),
-        e: grid::morton_index_by_table(0, grid::next_block(by, ny), m),
+        u: grid::morton_index_by_table(&table, 0, grid::previous_block(by, ny), m),
+        o: grid::morton_index_by_table(&table, 0, by, m),
+        e: grid::morton_index_by_table(&table, 0, grid::next_block(by, ny), m),
     }
 }
 

@@ -57,7 +57,7 @@ fn decode_block(
     ensures { λ _. ⌜ now (image .exit) ≡ withBlock p (now («data» .entry)) bx by (now (image .entry)) ⌝ }
 {
     let is2bpp = p.is2bpp;
-    let nine = texel::nine_words(data, nx, ny, is2bpp, bx, by, false);
+    let nine = texel::nine_words(data, nx, ny, is2bpp, bx, by);
     let buffer = applicate_color(nine, is2bpp);
     let width = grid::block_width(is2bpp);
     paint::copy_block_buffer(bx, by, p.width, p.height, width, 4, &buffer, image);

@@ -5,10 +5,38 @@ use crate::Picture;
 use crate::Refusal;
 use crate::Texel;
 use crate::check::check;
-use crate::decode_texel;
-ghost use Rattle.pvrtc.specs.Calls.{picture, RowDecoded};
+ghost use mathlib.Core.Path.{_≡_};
+ghost use Prim.Native.Nat.{ℕ, _/_, _%_};
+ghost use lib.ListN.{getD};
+ghost use Rattle.grid.specs.Grid.{blockWidth};
+ghost use Rattle.pvrtc.specs.Calls.{picture, pictureTexel, TexelRead, RowDecoded};
 
-// Row y of a picture into lent words.
+// The block across that column x of a picture lies in, and its place there.
+fn block_of(x: usize, is2bpp: bool) -> usize
+    ensures { λ r. ⌜ r ≡ x / blockWidth is2bpp ⌝ }
+{
+    if is2bpp { x / 8 } else { x / 4 }
+}
+
+fn place_of(x: usize, is2bpp: bool) -> usize
+    ensures { λ r. ⌜ r ≡ x % blockWidth is2bpp ⌝ }
+{
+    if is2bpp { x % 8 } else { x % 4 }
+}
+
+// What the texel call answers, where the texels of its row in its block are known.
+fn known_texel(texels: &[u32; 8], data: &[u8], p: Picture, x: usize, y: usize) -> Texel
+    requires { ⌜ getD (now texels) (x % blockWidth (p .is2bpp)) 0 ≡ pictureTexel p (now «data») x y ⌝ }
+    ensures { λ r. ⌜ TexelRead p (now («data» .entry)) x y r ⌝ }
+{
+    let checked = check(p, Call::Texel { x: x, y: y }, data.len());
+    match checked {
+        Decoded::Done => Texel::Word(texels[place_of(x, p.is2bpp)]),
+        Decoded::Refused(f) => Texel::Refused(f),
+    }
+}
+
+// Row y of a picture into lent words. The nine words about a block become those about the next one.
 pub fn decode_row(
     data: &[u8],
     width: usize,
@@ -24,19 +52,33 @@ pub fn decode_row(
         height: height,
         is2bpp: is2bpp,
     };
-    let checked = check(
-        p,
-        Call::Row {
-            y: y,
-            room: row.len(),
-        },
-        data.len(),
-    );
+    let call = Call::Row {
+        y: y,
+        room: row.len(),
+    };
+    let checked = check(p, call, data.len());
     let Decoded::Done = checked else {
         return checked;
     };
+    let table = grid::spread_table();
+    let nx = grid::num_blocks_x(width, is2bpp);
+    let ny = grid::num_blocks_y(height);
+    let mut nine = texel::first_words(&table, data, nx, ny, is2bpp, nx - 1, y / 4, y % 4);
+    let mut texels = [0u32; 8];
     for x in 0..width {
-        let Texel::Word(word) = decode_texel(data, width, height, is2bpp, x, y) else {
+        if place_of(x, is2bpp) == 0 {
+            let bx = block_of(x, is2bpp);
+            nine = texel::next_words(&table, data, nx, ny, is2bpp, nine, bx, y / 4, y % 4);
+            texel::texels_in(
+                nine,
+                is2bpp,
+                0,
+                y % 4,
+                grid::block_width(is2bpp),
+                &mut texels,
+            );
+        }
+        let Texel::Word(word) = known_texel(&texels, data, p, x, y) else {
             // By the checks above no texel of the row is refused.
             return Decoded::Refused(Refusal::Outside);
         };

@@ -1,5 +1,7 @@
+pub mod Across
 pub mod Blend
 pub mod Made
+pub mod Needed
 pub mod Nine
 pub mod Range
 pub mod Same

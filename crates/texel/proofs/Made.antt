@@ -1,16 +1,19 @@
 -- How the equations of the calls inside make the texel, over plain variables. Assumes nothing.
 use mathlib.Core.Path.{_≡_}
 use mathlib.Core.Bool.{Bool, true, false}
-use mathlib.Core.List.{List}
-use Prim.Native.Nat.{ℕ, _+_, _-_, _*_, _/_}
+use mathlib.Core.List.{List, []}
+use Prim.Native.Nat.{ℕ, _+_, _-_, _*_, _/_, _%_}
+use lib.ListN.{getD}
 use Rattle.grid.specs.Grid.{half, blockWidth}
 use Rattle.facts.specs.Bits.{isSet}
 use Rattle.word.specs.declared.Fill.{Fill}
 use Rattle.word.specs.declared.Fill.the-variants.{Nothing, Around, AboveBelow, LeftRight}
 use Rattle.word.specs.declared.PVRTCTexelInfo.{PVRTCTexelInfo}
 use Rattle.texel.specs.declared.PVRTCTexelColorInt.{PVRTCTexelColorInt}
-use Rattle.texel.specs.Texel.{Words, nineSum, blended, packed, blend, near, filled, ruleAt, mixed, texelIn}
-use Rattle.texel.specs.Inner.{nineOf, sumsTo, toBytes, pixel}
+use Rattle.texel.specs.declared.Window.{Window}
+use Rattle.texel.specs.Texel.{Words, blended, packed, blend, near, filled, ruleAt}
+use Rattle.texel.specs.Inner.{toBytes, pixel}
+use Rattle.texel.specs.Summed.{shares, acrossOf, onlyWeights, texelBy}
 
 module _ (s t : PVRTCTexelColorInt) (w : ℕ) {p : Bool} {r g b x : ℕ} where
   pub punched : p ≡ true → r ≡ blended (s .r) (t .r) w → g ≡ blended (s .g) (t .g) w → b ≡ blended (s .b) (t .b) w
@@ -21,18 +24,23 @@ module _ (s t : PVRTCTexelColorInt) (w : ℕ) {p : Bool} {r g b x : ℕ} where
       → a ≡ blended (s .a) (t .a) w → x ≡ packed (record { r = r; g = g; b = b; a = a }) → x ≡ packed (blend (pixel s) (pixel t) w p)
   whole ep er eg eb ea ex = cc
 
-pub texel : (two : Bool) (nine : List PVRTCTexelInfo) (px py : ℕ) {sa sb a b : PVRTCTexelColorInt} {w x : ℕ} {p : Bool}
-    → sa ≡ sumsTo (half two) (nineOf nine) false px py 9 → a ≡ toBytes (half two) sa
-    → sb ≡ sumsTo (half two) (nineOf nine) true px py 9 → b ≡ toBytes (half two) sb
-    → w ≡ filled (half two) (ruleAt (nineOf nine 1 1) px py) (nineOf nine) (px + blockWidth two) (py + 4)
-    → p ≡ isSet (nineOf nine 1 1 .«punch_through_flag») (blockWidth two * py + px)
-    → x ≡ packed (blend (pixel a) (pixel b) w p) → x ≡ packed (texelIn (half two) (nineOf nine) px py)
-unfolding texelIn mixed sumsTo nineSum
-texel two nine px py ea eb ec ed ew ep ex = rw (ex, eb, ed, ea, ec, ew, ep)
+pub texel : (two : Bool) (weights : List (List ℕ)) (own : PVRTCTexelInfo) (window : Window) (px py : ℕ) {row : List ℕ} {sa sb a b : PVRTCTexelColorInt} {w x : ℕ} {p : Bool}
+    → row ≡ shares (half two) px → sa ≡ acrossOf (window .a) row → a ≡ toBytes (half two) sa → sb ≡ acrossOf (window .b) row → b ≡ toBytes (half two) sb
+    → w ≡ filled (half two) (ruleAt own px py) (onlyWeights weights) (px + blockWidth two) (py + 4)
+    → p ≡ isSet (own .«punch_through_flag») (blockWidth two * py + px)
+    → x ≡ packed (blend (pixel a) (pixel b) w p) → x ≡ packed (texelBy (half two) weights own window px py)
+unfolding texelBy
+texel two weights own window px py er ea eb ec ed ew ep ex = rw (ex, eb, ed, ea, ec, er, ew, ep)
 
-pub weight : (two : Bool) (nine : List PVRTCTexelInfo) (px py : ℕ) {f : Fill} {w r : ℕ} → f ≡ ruleAt (nineOf nine 1 1) px py → w ≡ blockWidth two
-    → r ≡ filled (half two) f (nineOf nine) (px + w) (py + 4) → r ≡ filled (half two) (ruleAt (nineOf nine 1 1) px py) (nineOf nine) (px + blockWidth two) (py + 4)
-weight two nine px py ef ew er = rw (← ef, ← ew) er
+pub weight : (two : Bool) (own : PVRTCTexelInfo) (nine : Words) (px py : ℕ) {f : Fill} {w r : ℕ} → f ≡ ruleAt own px py → w ≡ blockWidth two
+    → r ≡ filled (half two) f nine (px + w) (py + 4) → r ≡ filled (half two) (ruleAt own px py) nine (px + blockWidth two) (py + 4)
+weight two own nine px py ef ew er = rw (← ef, ← ew) er
+
+-- an index and the weight there, on the strip
+pub near-is : (two : Bool) (weights : List (List ℕ)) (x y : ℕ) {k i : ℕ} → k ≡ 3 * (y / 4) + x / blockWidth two → i ≡ blockWidth two * (y % 4) + x % blockWidth two
+    → getD (getD weights k []) i 0 ≡ near (half two) (onlyWeights weights) x y
+unfolding near
+near-is two weights x y ek ei = rw (ek, ei)
 
 module _ (h : ℕ) (nine : Words) (x y : ℕ) {f : Fill} where
   pub by-nothing : f ≡ Nothing → {o : ℕ} → o ≡ near h nine x y → o ≡ filled h f nine x y

@@ -8,13 +8,14 @@ use native.Mathlib.Omega.{arith}
 use lib.ListN.{getD, take, drop, length, length-drop}
 use lib.Seq.{take-all}
 use Rattle.facts.proofs.Tab.{getD-tab}
-use Rattle.grid.specs.Grid.{half, blockWidth, log2, address, blockAddress}
+use Rattle.grid.specs.Grid.{half, blockWidth, log2, address, blockAddress, beside}
 use Rattle.grid.proofs.Onto.{bijective}
 use Rattle.word.specs.Word.{Small, wordOf}
 use Rattle.word.proofs.Bounds.{small-a, small-b, weight-le}
 use Rattle.word.specs.declared.PVRTCTexelInfo.{PVRTCTexelInfo}
-use Rattle.texel.specs.Texel.{packed, near, texelIn, about, texelAt, wordsOf, texelWord}
+use Rattle.texel.specs.Texel.{packed, texelIn, about, texelAt, wordsOf, texelWord}
 use Rattle.texel.specs.Inner.{blank, nineOf, side, nineAbout, Grid, Read}
+use Rattle.texel.specs.Needed.{addressOf}
 use Rattle.texel.proofs.Same.{texel-same}
 use Rattle.texel.proofs.Shares.{half-low}
 
@@ -36,7 +37,7 @@ pub small-side : (two second : Bool) (d : List ℕ) → Small (side second (word
 small-side two true d = small-b two d
 small-side two false d = small-a two d
 
-low-weight : (two : Bool) (d : List ℕ) (i : ℕ) → i < 4 * blockWidth two → getD (wordOf two d .weight) i 0 ≤ 8
+pub low-weight : (two : Bool) (d : List ℕ) (i : ℕ) → i < 4 * blockWidth two → getD (wordOf two d .weight) i 0 ≤ 8
 low-weight true d i l = weight-le true d i l
 low-weight false d i l = weight-le false d i l
 
@@ -48,18 +49,24 @@ read two gx gy d bx by =
       low = λ k i l m. subst (λ (w : PVRTCTexelInfo). getD (w .weight) i 0 ≤ 8) (sym (the-word two gx gy d bx by k l)) (low-weight two _ i m);
     }
 
--- an index and the weight there, on the strip
-pub near-is : (two : Bool) (nine : List PVRTCTexelInfo) (x y : ℕ) {k i : ℕ} → k ≡ 3 * (y / 4) + x / blockWidth two → i ≡ blockWidth two * (y % 4) + x % blockWidth two
-    → getD (getD nine k blank .weight) i 0 ≡ near (half two) (nineOf nine) x y
-unfolding near
-near-is two nine x y ek ei = rw (ek, ei)
-
 -- the address of a block of the grid, and where its word lies
 pub located : (gx gy len bx by m z : ℕ) → Grid gx gy len → bx < gx → by < gy → m ≡ min gx gy → z ≡ address (log2 m) bx by
     → (z ≡ blockAddress gx gy bx by) × (8 * z + 8 ≤ len)
 located gx gy len bx by m z g hx hy em ez =
     let e : z ≡ blockAddress gx gy bx by = ez ∙ ap (λ (n : ℕ). address (log2 n) bx by) em in
     (e, omega (arith, bijective gx gy (g .power-across) (g .power-down) .within bx by hx hy, g .enough))
+
+-- a grid's words, and no bytes past them
+pub exact : (gx gy len : ℕ) → Grid gx gy len → Grid gx gy (8 * (gx * gy))
+exact gx gy len g =
+    record { power-across = g .power-across; power-down = g .power-down; across = g .across; down = g .down; enough = omega arith }
+
+-- the same of word k of nine, from the block's neighbours
+pub about-at : (gx gy len bx by k cx cy m z : ℕ) → Grid gx gy len → cx ≡ beside gx bx (k % 3) → cy ≡ beside gy by (k / 3) → cx < gx → cy < gy → m ≡ min gx gy
+    → z ≡ address (log2 m) cx cy → (z ≡ addressOf gx gy bx by k) × (z < gx * gy)
+about-at gx gy len bx by k cx cy m z g ex ey hx hy em ez =
+    let at = located gx gy (8 * (gx * gy)) cx cy m z (exact gx gy len g) hx hy em ez in
+    (at .0 ∙ rw (ex, ey), omega arith)
 
 -- the word at the start of what is left of the data from o on
 pub word-from : (two : Bool) (d : List ℕ) (o : ℕ) → wordOf two (take (length d - o) (drop o d)) ≡ wordOf two (drop o d)

@@ -33,10 +33,6 @@ nineOf nine i j = getD nine (3 * j + i) blank
 abbrev pub side : (second : Bool) → PVRTCTexelInfo → PVRTCTexelColor
 side second w = cond second (w .b) (w .a)
 
--- A colour's four sums with the colour c at one factor more.
-abbrev pub added : PVRTCTexelColorInt → PVRTCTexelColor → ℕ → PVRTCTexelColorInt
-added s c f = record { r = s .r + c .r * f; g = s .g + c .g * f; b = s .b + c .b * f; a = s .a + c .a * f }
-
 -- The four sums of colour A, or B, over the first n of nine words.
 unfoldable pub sumsTo : ℕ → Words → (second : Bool) → ℕ → ℕ → ℕ → PVRTCTexelColorInt
 sumsTo h nine second px py n =
@@ -77,9 +73,13 @@ pub record Strip (two : Bool) (x y : ℕ) : Type 0 where
   pub across : x < 3 * blockWidth two
   pub down : y < 12
 
+-- Nine words whose colours have five bits, alpha four.
+abbrev pub SmallColors : List PVRTCTexelInfo → Type 0
+SmallColors nine = (second : Bool) (k : ℕ) → k < 9 → Small (side second (getD nine k blank))
+
 -- Nine words that were read: their colours have five bits, alpha four, and no weight is above 8.
 pub record Read (two : Bool) (nine : List PVRTCTexelInfo) : Type 0 where
-  pub small : (second : Bool) (k : ℕ) → k < 9 → Small (side second (getD nine k blank))
+  pub small : SmallColors nine
   pub low : (k i : ℕ) → k < 9 → i < 4 * blockWidth two → getD (getD nine k blank .weight) i 0 ≤ 8
 
 -- Four sums that are bounded by t blocks' worth of the largest channel.

@@ -1,2 +1,4 @@
 pub mod Inner
+pub mod Needed
+pub mod Summed
 pub mod Texel

@@ -1,18 +1,25 @@
 // One texel of a picture, from the nine words about its block.
+mod rows;
+mod summing;
 mod weights;
 mod words;
 
+pub use rows::first_words;
+pub use rows::next_words;
+pub use rows::texels_in;
 pub use words::nine_words;
 pub use words::texel_at;
+ghost use mathlib.Core.Bool.{true, false};
 ghost use mathlib.Core.Path.{_≡_};
 ghost use Prim.Native.Nat.{ℕ, _*_, _≤_, _<_};
 ghost use Rattle.grid.specs.Grid.{half};
-ghost use Rattle.texel.specs.Texel as spec;
-ghost use Rattle.texel.specs.Texel.{share, blended, packed, blend, texelIn};
-ghost use Rattle.texel.specs.Inner.{nineOf, side, added, sumsTo, toBytes, pixel, Place, Read, Low, Bytes};
+ghost use Rattle.texel.specs.Texel.{blended, packed, blend, texelIn};
+ghost use Rattle.texel.specs.Inner.{nineOf, toBytes, pixel, Place, Read, Low, Bytes};
+ghost use Rattle.texel.specs.Summed.{shareRows, texelBy, LowWindow, LowWeights};
+use summing::shares_across;
+use summing::sum_across;
 use weights::punched;
 use weights::weight_at;
-use word::PVRTCTexelColor;
 use word::PVRTCTexelInfo;
 
 // The channels of a colour: summed over nine blocks, or brought to 8 bits.
@@ -23,97 +30,17 @@ pub struct PVRTCTexelColorInt {
     pub a: u32,
 }
 
-// The shares of the previous, the own and the next block, for each place across a block at 2bpp.
-const INTERP_WEIGHT_X: [[u32; 3]; 8] = [
-    [4, 4, 0],
-    [3, 5, 0],
-    [2, 6, 0],
-    [1, 7, 0],
-    [0, 8, 0],
-    [0, 7, 1],
-    [0, 6, 2],
-    [0, 5, 3],
-];
-
-// The same down a block at either depth, and across one at 4bpp.
-const INTERP_WEIGHT_Y: [[u32; 3]; 4] = [[2, 2, 0], [1, 3, 0], [0, 4, 0], [0, 3, 1]];
-
-fn share_down(p: usize, k: usize) -> u32
-    requires { ⌜ (p < 4) × (k < 3) ⌝ }
-    ensures { λ r. ⌜ r ≡ share 2 p k ⌝ }
-{
-    INTERP_WEIGHT_Y[p][k]
+// The sums of a colour down three columns of words: the previous, the own and the next block's.
+pub struct Columns {
+    pub previous: PVRTCTexelColorInt,
+    pub own: PVRTCTexelColorInt,
+    pub next: PVRTCTexelColorInt,
 }
 
-fn share_wide(p: usize, k: usize) -> u32
-    requires { ⌜ (p < 8) × (k < 3) ⌝ }
-    ensures { λ r. ⌜ r ≡ share 4 p k ⌝ }
-{
-    INTERP_WEIGHT_X[p][k]
-}
-
-// The product of shares of block k of the nine, at the place (px, py) of the middle one.
-fn factor(is2bpp: bool, px: usize, py: usize, k: usize) -> u32
-    requires { ⌜ Place is2bpp px py × (k < 9) ⌝ }
-    ensures { λ r. ⌜ (r ≡ spec.factor (half is2bpp) px py k) × (r ≤ 32) ⌝ }
-{
-    if is2bpp {
-        share_wide(px, k % 3) * share_down(py, k / 3)
-    } else {
-        share_down(px, k % 3) * share_down(py, k / 3)
-    }
-}
-
-fn times(channel: u8, factor: u32) -> u32
-    requires { ⌜ factor ≤ 32 ⌝ }
-    ensures { λ r. ⌜ (r ≡ channel * factor) × (r ≤ 8160) ⌝ }
-{
-    channel as u32 * factor
-}
-
-// A colour's sums with one block more.
-fn add(s: PVRTCTexelColorInt, c: PVRTCTexelColor, factor: u32) -> PVRTCTexelColorInt
-    requires { ⌜ Low 32 s × (factor ≤ 32) ⌝ }
-    ensures { λ r. ⌜ r ≡ added s c factor ⌝ }
-{
-    PVRTCTexelColorInt {
-        r: s.r + times(c.r, factor),
-        g: s.g + times(c.g, factor),
-        b: s.b + times(c.b, factor),
-        a: s.a + times(c.a, factor),
-    }
-}
-
-// Colour B of a word if `second`, else A.
-fn color_of(word: PVRTCTexelInfo, second: bool) -> PVRTCTexelColor
-    ensures { λ r. ⌜ r ≡ side second word ⌝ }
-{
-    if second { word.b } else { word.a }
-}
-
-// Colour A, or B, summed over the nine blocks by their shares.
-fn sum_nine(
-    nine: [PVRTCTexelInfo; 9],
-    is2bpp: bool,
-    second: bool,
-    px: usize,
-    py: usize,
-) -> PVRTCTexelColorInt
-    requires { ⌜ Place is2bpp px py × Read is2bpp nine ⌝ }
-    ensures { λ r. ⌜ (r ≡ sumsTo (half is2bpp) (nineOf nine) second px py 9) × Low (8 * half is2bpp) r ⌝ }
-{
-    let mut s = PVRTCTexelColorInt {
-        r: 0,
-        g: 0,
-        b: 0,
-        a: 0,
-    };
-    for k in 0..9 {
-        let word = nine[k];
-        let f = factor(is2bpp, px, py, k);
-        s = add(s, color_of(word, second), f);
-    }
-    s
+// The columns of colours A and B.
+pub struct Window {
+    pub a: Columns,
+    pub b: Columns,
 }
 
 // A colour's sums as 8 bits.
@@ -169,14 +96,34 @@ fn mix(a: PVRTCTexelColorInt, b: PVRTCTexelColorInt, w: u32, is_punched: bool) -
     }
 }
 
+// The texel at the place (px, py) of the block of the word `own`, from its window and the weights about it. The tables of shares are lent.
+fn texel_by(
+    wide: &[[u32; 3]; 8],
+    narrow: &[[u32; 3]; 4],
+    weights: &[[u8; 32]; 9],
+    own: PVRTCTexelInfo,
+    window: Window,
+    is2bpp: bool,
+    px: usize,
+    py: usize,
+) -> u32
+    requires { ⌜ (now wide ≡ shareRows 4) × (now narrow ≡ shareRows 2) × Place is2bpp px py ⌝ }
+    requires { ⌜ LowWeights is2bpp (now weights) × LowWindow window ⌝ }
+    ensures { λ r. ⌜ r ≡ packed (texelBy (half is2bpp) (now (weights .entry)) own window px py) ⌝ }
+{
+    let row = shares_across(wide, narrow, is2bpp, px);
+    let a = scale(sum_across(window.a, &row), is2bpp);
+    let b = scale(sum_across(window.b, &row), is2bpp);
+    let w = weight_at(weights, own, is2bpp, px, py);
+    mix(a, b, w, punched(own.punch_through_flag, is2bpp, px, py))
+}
+
 // The texel at the place (px, py) of the middle block of nine.
 pub fn texel_in(nine: [PVRTCTexelInfo; 9], is2bpp: bool, px: usize, py: usize) -> u32
     requires { ⌜ Place is2bpp px py × Read is2bpp nine ⌝ }
     ensures { λ r. ⌜ r ≡ packed (texelIn (half is2bpp) (nineOf nine) px py) ⌝ }
 {
-    let a = scale(sum_nine(nine, is2bpp, false, px, py), is2bpp);
-    let b = scale(sum_nine(nine, is2bpp, true, px, py), is2bpp);
-    let w = weight_at(nine, is2bpp, px, py);
-    let own = nine[4];
-    mix(a, b, w, punched(own.punch_through_flag, is2bpp, px, py))
+    let mut texels = [0u32; 8];
+    texels_in(nine, is2bpp, px, py, 1, &mut texels);
+    texels[0]
 }

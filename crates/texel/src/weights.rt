@@ -5,7 +5,8 @@ ghost use Rattle.facts.specs.Bits.{isSet};
 ghost use Rattle.grid.specs.Grid.{half, blockWidth};
 ghost use Rattle.texel.specs.Texel as spec;
 ghost use Rattle.texel.specs.Texel.{filled, ruleAt};
-ghost use Rattle.texel.specs.Inner.{nineOf, blank, Place, Strip, Read};
+ghost use Rattle.texel.specs.Inner.{Place, Strip};
+ghost use Rattle.texel.specs.Summed.{weightsOf, onlyWeights, LowWeights};
 use word::Fill;
 use word::PVRTCTexelInfo;
 
@@ -32,32 +33,57 @@ fn place_of(is2bpp: bool, x: usize, y: usize) -> usize
     }
 }
 
+// The stored weights of a word.
+fn weights_of(word: PVRTCTexelInfo) -> [u8; 32]
+    ensures { λ r. ⌜ r ≡ word .weight ⌝ }
+{
+    word.weight
+}
+
+// Those of nine words, a row for each.
+pub fn weights_in(nine: [PVRTCTexelInfo; 9]) -> [[u8; 32]; 9]
+    ensures { λ r. ⌜ r ≡ weightsOf nine ⌝ }
+{
+    [
+        weights_of(nine[0]),
+        weights_of(nine[1]),
+        weights_of(nine[2]),
+        weights_of(nine[3]),
+        weights_of(nine[4]),
+        weights_of(nine[5]),
+        weights_of(nine[6]),
+        weights_of(nine[7]),
+        weights_of(nine[8]),
+    ]
+}
+
 // The weight stored at the place (x, y) of the strip.
-fn near(nine: [PVRTCTexelInfo; 9], is2bpp: bool, x: usize, y: usize) -> u32
-    requires { ⌜ Strip is2bpp x y × Read is2bpp nine ⌝ }
-    ensures { λ r. ⌜ (r ≡ spec.near (half is2bpp) (nineOf nine) x y) × (r ≤ 8) ⌝ }
+fn near(weights: &[[u8; 32]; 9], is2bpp: bool, x: usize, y: usize) -> u32
+    requires { ⌜ Strip is2bpp x y × LowWeights is2bpp (now weights) ⌝ }
+    ensures { λ r. ⌜ (r ≡ spec.near (half is2bpp) (onlyWeights (now (weights .entry))) x y) × (r ≤ 8) ⌝ }
 {
     let k = block_of(is2bpp, x, y);
     let i = place_of(is2bpp, x, y);
-    let word = nine[k];
-    word.weight[i] as u32
+    weights[k][i] as u32
 }
 
 // The weight that a fill rule gives there.
-fn fill(rule: Fill, nine: [PVRTCTexelInfo; 9], is2bpp: bool, x: usize, y: usize) -> u32
-    requires { ⌜ (0 < x) × (0 < y) × Strip is2bpp (x + 1) (y + 1) × Read is2bpp nine ⌝ }
-    ensures { λ r. ⌜ (r ≡ filled (half is2bpp) rule (nineOf nine) x y) × (r ≤ 8) ⌝ }
+fn fill(rule: Fill, weights: &[[u8; 32]; 9], is2bpp: bool, x: usize, y: usize) -> u32
+    requires { ⌜ (0 < x) × (0 < y) × Strip is2bpp (x + 1) (y + 1) × LowWeights is2bpp (now weights) ⌝ }
+    ensures { λ r. ⌜ (r ≡ filled (half is2bpp) rule (onlyWeights (now (weights .entry))) x y) × (r ≤ 8) ⌝ }
 {
     match rule {
-        Fill::Nothing => near(nine, is2bpp, x, y),
-        Fill::Around => (near(nine, is2bpp, x, y - 1)
-            + near(nine, is2bpp, x, y + 1)
-            + near(nine, is2bpp, x - 1, y)
-            + near(nine, is2bpp, x + 1, y)
+        Fill::Nothing => near(weights, is2bpp, x, y),
+        Fill::Around => (near(weights, is2bpp, x, y - 1)
+            + near(weights, is2bpp, x, y + 1)
+            + near(weights, is2bpp, x - 1, y)
+            + near(weights, is2bpp, x + 1, y)
             + 2)
             / 4,
-        Fill::AboveBelow => (near(nine, is2bpp, x, y - 1) + near(nine, is2bpp, x, y + 1) + 1) / 2,
-        Fill::LeftRight => (near(nine, is2bpp, x - 1, y) + near(nine, is2bpp, x + 1, y) + 1) / 2,
+        Fill::AboveBelow => (near(weights, is2bpp, x, y - 1) + near(weights, is2bpp, x, y + 1) + 1)
+            / 2,
+        Fill::LeftRight => (near(weights, is2bpp, x - 1, y) + near(weights, is2bpp, x + 1, y) + 1)
+            / 2,
     }
 }
 
@@ -72,14 +98,20 @@ fn rule_at(word: PVRTCTexelInfo, px: usize, py: usize) -> Fill
     word.fill
 }
 
-// The weight at the place (px, py) of the middle block.
-pub fn weight_at(nine: [PVRTCTexelInfo; 9], is2bpp: bool, px: usize, py: usize) -> u32
-    requires { ⌜ Place is2bpp px py × Read is2bpp nine ⌝ }
-    ensures { λ r. ⌜ (r ≡ filled (half is2bpp) (ruleAt (nineOf nine 1 1) px py) (nineOf nine) (px + blockWidth is2bpp) (py + 4)) × (r ≤ 8) ⌝ }
+// The weight at the place (px, py) of the block of the word `own`.
+pub fn weight_at(
+    weights: &[[u8; 32]; 9],
+    own: PVRTCTexelInfo,
+    is2bpp: bool,
+    px: usize,
+    py: usize,
+) -> u32
+    requires { ⌜ Place is2bpp px py × LowWeights is2bpp (now weights) ⌝ }
+    ensures { λ r. ⌜ (r ≡ filled (half is2bpp) (ruleAt own px py) (onlyWeights (now (weights .entry))) (px + blockWidth is2bpp) (py + 4)) × (r ≤ 8) ⌝ }
 {
-    let rule = rule_at(nine[4], px, py);
+    let rule = rule_at(own, px, py);
     let width = grid::block_width(is2bpp);
-    fill(rule, nine, is2bpp, px + width, py + 4)
+    fill(rule, weights, is2bpp, px + width, py + 4)
 }
 
 // Whether the texel at (px, py) of a block is punched through, by the block's flag.

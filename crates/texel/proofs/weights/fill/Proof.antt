@@ -1,10 +1,11 @@
 -- `texel::weights::fill` meets its contract, rule by rule. Assumes nothing.
 use native.Mathlib.Omega.{arith}
+use denote.Ref.{now}
 use borrow.Author.Needs.{needs}
 use Rattle.grid.specs.Grid.{half}
 use Rattle.texel.proofs.Made.{by-nothing, by-around, by-above-below, by-left-right}
 use Rattle.texel.proofs.Shares.{half-high}
-use Rattle.texel.specs.Inner.{nineOf}
+use Rattle.texel.specs.Summed.{onlyWeights}
 use Rattle.texel.proofs.weights.fill.Statement.{statement}
 use Rattle.texel.proofs.weights.fill.Tie as tie
 
@@ -98,24 +99,24 @@ add-result-8 c = search needs
 returns : tie.Need-returns
 returns c =
     let a = c .before .before .before .args in
-    (by-nothing (half (a .is2bpp)) (nineOf (a .nine)) (a .x) (a .y) (c .before .enum-told .given .1) (c .near .ensures .0), c .near .ensures .1)
+    (by-nothing (half (a .is2bpp)) (onlyWeights (now (a .weights))) (a .x) (a .y) (c .before .enum-told .given .1) (c .near .ensures .0), c .near .ensures .1)
 
 returns-2 : tie.Need-returns-2
 returns-2 c =
     let a = c .before .before .before .before .before .before .args in (
-      by-around (half (a .is2bpp)) (nineOf (a .nine)) (a .x) (a .y) (c .before .before .before .before .enum-told2 .given .1) (c .before .before .before .near2 .ensures .0) (c .before .before .near3 .ensures .0) (c .before .near4 .ensures .0) (c .near5 .ensures .0),
+      by-around (half (a .is2bpp)) (onlyWeights (now (a .weights))) (a .x) (a .y) (c .before .before .before .before .enum-told2 .given .1) (c .before .before .before .near2 .ensures .0) (c .before .before .near3 .ensures .0) (c .before .near4 .ensures .0) (c .near5 .ensures .0),
       omega arith,
     )
 
 returns-3 : tie.Need-returns-3
 returns-3 c =
     let a = c .before .before .before .before .args in
-    (by-above-below (half (a .is2bpp)) (nineOf (a .nine)) (a .x) (a .y) (c .before .before .enum-told3 .given .1) (c .before .near6 .ensures .0) (c .near7 .ensures .0), omega arith)
+    (by-above-below (half (a .is2bpp)) (onlyWeights (now (a .weights))) (a .x) (a .y) (c .before .before .enum-told3 .given .1) (c .before .near6 .ensures .0) (c .near7 .ensures .0), omega arith)
 
 returns-4 : tie.Need-returns-4
 returns-4 c =
     let a = c .before .before .before .before .args in
-    (by-left-right (half (a .is2bpp)) (nineOf (a .nine)) (a .x) (a .y) (c .before .before .enum-told4 .given .1) (c .before .near8 .ensures .0) (c .near9 .ensures .0), omega arith)
+    (by-left-right (half (a .is2bpp)) (onlyWeights (now (a .weights))) (a .x) (a .y) (c .before .before .enum-told4 .given .1) (c .before .near8 .ensures .0) (c .near9 .ensures .0), omega arith)
 
 pub fill-spec : {M : Type 1} → statement M
 fill-spec =

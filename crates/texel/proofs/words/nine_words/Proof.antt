@@ -1,20 +1,23 @@
 -- `texel::words::nine_words` meets its contract. The loop keeps that the first k words are read. Assumes nothing.
-use mathlib.Core.Path.{refl, ap₂, _∙_}
-use Prim.Native.Nat.{_-_, _≤_, _/_, _%_}
+use mathlib.Core.Path.{refl, ap, _∙_}
+use Prim.Native.Nat.{ℕ, _-_, _*_, _≤_, _/_, _%_}
 use native.Mathlib.Omega.{arith}
 use denote.Ref.{now}
+use lib.ListN.{drop}
 use borrow.Author.Needs.{needs}
 use Rattle.facts.proofs.Tab.{Filled, filled-none, filled-more, filled-end}
+use Rattle.word.specs.Word.{wordOf}
+use Rattle.texel.proofs.Nine.{exact}
 use Rattle.texel.specs.Inner.{nineAbout}
-use Rattle.texel.specs.Texel.{about, wordsOf}
+use Rattle.texel.specs.Needed.{wordAbout}
 use Rattle.texel.proofs.words.nine_words.Statement.{statement}
 use Rattle.texel.proofs.words.nine_words.Tie as tie
 
 abbrev Inv-loop : tie.InvT-loop
-Inv-loop «data» num-blocks-x num-blocks-y is2bpp bx by by-table nine₀ k₀ nine k = (k ≤ 9) × Filled (λ k. about num-blocks-x num-blocks-y (wordsOf is2bpp num-blocks-x num-blocks-y «data») bx by (k % 3) (k / 3)) nine₀ k nine
+Inv-loop «data» num-blocks-x num-blocks-y is2bpp bx by nine₀ k₀ nine k = (k ≤ 9) × Filled (wordAbout is2bpp num-blocks-x num-blocks-y «data» bx by) nine₀ k nine
 
 abbrev μ-loop : tie.MeasureT-loop
-μ-loop «data» num-blocks-x num-blocks-y is2bpp bx by by-table nine₀ k₀ nine k = 9 - k
+μ-loop «data» num-blocks-x num-blocks-y is2bpp bx by nine₀ k₀ nine k = 9 - k
 
 unread-info-requires : tie.Need-unread-info-requires Inv-loop μ-loop
 unread-info-requires c κs = search needs
@@ -22,14 +25,13 @@ unread-info-requires c κs = search needs
 loop-holds : tie.Need-loop-holds Inv-loop μ-loop
 loop-holds c = (omega arith, filled-none _ _)
 
-beside-requires : tie.Need-beside-requires Inv-loop μ-loop
-beside-requires c κs = search needs
-
-beside-requires-2 : tie.Need-beside-requires-2 Inv-loop μ-loop
-beside-requires-2 c κs = search needs
+address-requires : tie.Need-address-requires Inv-loop μ-loop
+address-requires c κs =
+    let p = c .before .before .before .before .pre in
+    (exact _ _ _ (p .0), p .1, p .2, omega arith)
 
 word-at-requires : tie.Need-word-at-requires Inv-loop μ-loop
-word-at-requires c κs = search needs
+word-at-requires c κs = omega (arith, c .address .ensures .1, c .before .before .before .before .before .pre .0 .enough)
 
 mul-nine : tie.Need-mul-nine Inv-loop μ-loop
 mul-nine c = omega arith
@@ -45,10 +47,9 @@ loop-less c = omega arith
 
 loop-again : tie.Need-loop-again Inv-loop μ-loop
 loop-again c =
-    let l = c .before .before .before .before .loop in
-    let a = c .before .before .before .before .before .before .before .args in
-    let e = c .word-at .ensures ∙ ap₂ (wordsOf (a .is2bpp) (a .num-blocks-x) (a .num-blocks-y) (now (a .«data»))) (c .before .before .beside .ensures .0) (c .before .beside2 .ensures .0) in
-    (omega arith, filled-more (l .inv .1) e (omega arith))
+    let a = c .before .before .before .before .before .before .args in
+    let e = c .word-at .ensures ∙ ap (λ (z : ℕ). wordOf (a .is2bpp) (drop (8 * z) (now (a .«data»)))) (c .before .address .ensures .0) in
+    (omega arith, filled-more (c .before .before .before .loop .inv .1) e (omega arith))
 
 returns : tie.Need-returns Inv-loop μ-loop
 unfolding nineAbout
@@ -64,8 +65,7 @@ nine-words-spec =
     μ-loop
     unread-info-requires
     loop-holds
-    beside-requires
-    beside-requires-2
+    address-requires
     word-at-requires
     mul-nine
     array-set-from-nine

@@ -1,50 +1,83 @@
--- `texel::words::texel_at` meets its contract: its nine words were read, and `Nine` has that they give the texel. Assumes nothing.
+-- `texel::words::texel_at` meets its contract: `Needed` has that the words with a share give the texel. Assumes nothing.
 use Prim.Native.Nat.{_%_, _<_}
 use native.Mathlib.Nat.{mod-lt}
 use native.Mathlib.Omega.{arith}
 use denote.Ref.{now}
 use borrow.Author.Needs.{needs}
 use Rattle.grid.specs.Grid.{blockWidth}
-use Rattle.texel.proofs.Nine.{read, at-place}
+use Rattle.texel.proofs.Across.{row-at, few-shares, few-across}
+use Rattle.texel.proofs.Needed.{needed-read, texel-needed, place}
 use Rattle.texel.proofs.Shares.{half-low}
 use Rattle.texel.specs.Inner.{Place}
 use Rattle.texel.proofs.words.texel_at.Statement.{statement}
 use Rattle.texel.proofs.words.texel_at.Tie as tie
 
+spread-table-requires : tie.Need-spread-table-requires
+spread-table-requires c κs = search needs
+
+wide-shares-requires : tie.Need-wide-shares-requires
+wide-shares-requires c κs = search needs
+
+narrow-shares-requires : tie.Need-narrow-shares-requires
+narrow-shares-requires c κs = search needs
+
 block-width-requires : tie.Need-block-width-requires
 block-width-requires c κs = search needs
 
-div-nine-words : tie.Need-div-nine-words
-div-nine-words c = omega (arith, c .block-width .ensures, half-low (c .before .before .args .is2bpp))
+rem-shares-across : tie.Need-rem-shares-across
+rem-shares-across c = omega (arith, c .before .before .block-width .ensures, half-low (c .before .before .before .before .before .before .before .args .is2bpp))
 
-nine-words-requires : tie.Need-nine-words-requires
-nine-words-requires c κs =
-    let p = c .before .before .pre in
-    (p .0, rw (c .block-width .ensures) (p .1), p .2)
+shares-across-requires : tie.Need-shares-across-requires
+shares-across-requires c κs = (c .before .before .before .before .wide-shares .ensures, c .before .before .before .narrow-shares .ensures, place (c .before .before .before .before .before .before .before .args .is2bpp) (c .before .before .before .before .before .before .before .args .x) (c .before .before .before .before .before .before .before .args .y) (c .before .before .block-width .ensures) .across)
+
+mul-down : tie.Need-mul-down
+mul-down c = search needs
+
+array-copy-out-down : tie.Need-array-copy-out-down
+array-copy-out-down c = search needs
+
+div-needed-words : tie.Need-div-needed-words
+div-needed-words c = omega (arith, c .before .before .before .before .before .block-width .ensures, half-low (c .before .before .before .before .before .before .before .before .before .before .args .is2bpp))
+
+needed-words-requires : tie.Need-needed-words-requires
+needed-words-requires c κs =
+    let a = c .before .before .before .before .before .before .before .before .before .before .before .before .args in
+    let p = c .before .before .before .before .before .before .before .before .before .before .before .before .pre in
+    let at = place (a .is2bpp) (a .x) (a .y) (c .before .before .before .before .before .before .before .block-width .ensures) in
+    let row = row-at 2 (a .y % 4) (c .before .before .before .before .before .before .before .before .narrow-shares .ensures) (at .down) in (
+      (c .before .before .before .before .before .before .before .before .before .before .spread-table .ensures, p .0),
+      (rw (c .before .before .before .before .before .before .before .block-width .ensures) (p .1), p .2, few-across (a .is2bpp) (a .x % c .before .before .before .before .before .before .before .block-width .result) (at .across) (c .before .before .before .before .shares-across .ensures), rw row (few-shares 2 (a .y % 4) (omega arith) (at .down))),
+    )
 
 rem-texel-in : tie.Need-rem-texel-in
-rem-texel-in c = omega (arith, c .before .block-width .ensures, half-low (c .before .before .before .args .is2bpp))
+rem-texel-in c = omega (arith, c .before .before .before .before .before .before .before .before .block-width .ensures, half-low (c .before .before .before .before .before .before .before .before .before .before .before .before .before .args .is2bpp))
 
 texel-in-requires : tie.Need-texel-in-requires
 texel-in-requires c κs =
-    let a = c .before .before .before .args in
-    let wide : 0 < blockWidth (a .is2bpp) = omega (arith, half-low (a .is2bpp)) in
-    let place : Place (a .is2bpp) (a .x % c .before .block-width .result) (a .y % 4) =
-    record { across = rw (c .before .block-width .ensures) (mod-lt (a .x) wide); down = omega arith } in
-    (place, rw (c .nine-words .ensures) (read (a .is2bpp) (a .num-blocks-x) (a .num-blocks-y) (now (a .«data»)) _ _))
+    let a = c .before .before .before .before .before .before .before .before .before .before .before .before .before .args in
+    (place (a .is2bpp) (a .x) (a .y) (c .before .before .before .before .before .before .before .before .block-width .ensures), rw (c .needed-words .ensures) (needed-read (a .is2bpp) (a .num-blocks-x) (a .num-blocks-y) (now (a .«data»)) _ _ _ _))
 
 returns : tie.Need-returns
 returns c =
-    let a = c .before .before .before .before .args in
-    at-place (a .is2bpp) (a .num-blocks-x) (a .num-blocks-y) (now (a .«data»)) (a .x) (a .y) (c .before .before .block-width .ensures) (c .before .nine-words .ensures) (c .texel-in .ensures)
+    let a = c .before .before .before .before .before .before .before .before .before .before .before .before .before .before .args in
+    let at = place (a .is2bpp) (a .x) (a .y) (c .before .before .before .before .before .before .before .before .before .block-width .ensures) in
+    texel-needed (a .is2bpp) (a .num-blocks-x) (a .num-blocks-y) (now (a .«data»)) (a .x) (a .y) (c .before .before .before .before .before .before .before .before .before .block-width .ensures) (c .before .before .before .before .before .before .shares-across .ensures) (row-at 2 (a .y % 4) (c .before .before .before .before .before .before .before .before .before .before .narrow-shares .ensures) (at .down))
+    (c .before .needed-words .ensures) (c .texel-in .ensures)
 
 pub texel-at-spec : {M : Type 1} → statement M
 texel-at-spec =
     tie.close
     (tie.spec
+    spread-table-requires
+    wide-shares-requires
+    narrow-shares-requires
     block-width-requires
-    div-nine-words
-    nine-words-requires
+    rem-shares-across
+    shares-across-requires
+    mul-down
+    array-copy-out-down
+    div-needed-words
+    needed-words-requires
     rem-texel-in
     texel-in-requires
     returns)

@@ -1,0 +1,154 @@
+-- The words that a texel, or a row of texels, needs give the texels of all nine. Assumes nothing.
+use mathlib.Core.Path.{_≡_, sym, ap, subst, _∙_}
+use mathlib.Core.Bool.{Bool, true, false, cond}
+use mathlib.Core.List.{List, [], _∷_}
+use Prim.Native.Nat.{ℕ, zero, suc, _+_, _-_, _*_, _/_, _%_, _≤_, _<_}
+use native.Mathlib.Nat.{mod-lt, mul-le-mul, one-mul, not-suc-le-zero}
+use native.Mathlib.Omega.{arith}
+use lib.Dec.{eqb}
+use lib.ListN.{getD, drop, replicate, getD-replicate}
+use borrow.Author.Tests.{ne-eqb}
+use Rattle.facts.proofs.Tab.{getD-tab}
+use Rattle.facts.specs.Tab.{tab}
+use Rattle.grid.specs.Grid.{half, blockWidth, beside}
+use Rattle.grid.proofs.Torus.{beside-below, beside-own, back-again}
+use Rattle.word.specs.Word.{Small, unread, wordOf}
+use Rattle.word.specs.declared.PVRTCTexelInfo.{PVRTCTexelInfo}
+use Rattle.texel.specs.Inner.{blank, nineOf, side, Place, Read}
+use Rattle.texel.specs.Needed.{addressOf, wordAbout, wordIf, neededAbout, every, rowWords, slid}
+use Rattle.texel.specs.Summed.{shares, FewShares}
+use Rattle.texel.specs.Texel.{share, packed, texelIn, about, texelAt, wordsOf, texelWord}
+use Rattle.texel.proofs.Nine.{small-side, low-weight}
+use Rattle.texel.proofs.Same.{HasShare, texel-same}
+use Rattle.texel.proofs.Shares.{half-low}
+
+-- what was not read is small too
+small-if : (two second : Bool) (s : ℕ) (d : List ℕ) → Small (side second (wordIf s (wordOf two d)))
+small-if two second s d = by-test (eqb s 0)
+  where
+    small-none : (second : Bool) → Small (side second unread)
+    small-none true = record { r = omega arith; g = omega arith; b = omega arith; a = omega arith }
+    small-none false = record { r = omega arith; g = omega arith; b = omega arith; a = omega arith }
+
+    by-test : (t : Bool) → Small (side second (cond t unread (wordOf two d)))
+    by-test true = small-none second
+    by-test false = small-side two second d
+
+low-if : (two : Bool) (s : ℕ) (d : List ℕ) (i : ℕ) → i < 4 * blockWidth two → getD (wordIf s (wordOf two d) .weight) i 0 ≤ 8
+low-if two s d i l = by-test (eqb s 0)
+  where
+    below : (two : Bool) → i < 4 * blockWidth two → i < 32
+    below true h = omega arith
+    below false h = omega arith
+
+    by-test : (t : Bool) → getD (cond t unread (wordOf two d) .weight) i 0 ≤ 8
+    by-test true = omega (arith, getD-replicate {A = ℕ} 32 i 0 0 (below two l))
+    by-test false = low-weight two d i l
+
+module _ (two : Bool) (gx gy : ℕ) (d : List ℕ) (bx by : ℕ) (across down : List ℕ) where
+  -- word k of them
+  entry : (k : ℕ) → k < 9
+      → getD (neededAbout two gx gy d bx by across down) k blank ≡ wordIf (getD across (k % 3) 0 * getD down (k / 3) 0) (wordAbout two gx gy d bx by k)
+  unfolding neededAbout
+  entry k l = getD-tab (λ k. wordIf (getD across (k % 3) 0 * getD down (k / 3) 0) (wordAbout two gx gy d bx by k)) 9 k blank l
+
+  -- they were read, or nothing was
+  pub needed-read : Read two (neededAbout two gx gy d bx by across down)
+  needed-read =
+      record {
+        small = λ second k l. subst (λ (w : PVRTCTexelInfo). Small (side second w)) (sym (entry k l)) (small-if two second (has k) (bytes k));
+        low = λ k i l m. subst (λ (w : PVRTCTexelInfo). getD (w .weight) i 0 ≤ 8) (sym (entry k l)) (low-if two (has k) (bytes k) i m);
+      }
+    where
+      has : ℕ → ℕ
+      has k = getD across (k % 3) 0 * getD down (k / 3) 0
+
+      bytes : ℕ → List ℕ
+      bytes k = drop (8 * addressOf gx gy bx by k) d
+
+  -- where each block that has a share at a place has one by the rows, the texel there is the texel of all nine
+  pub needed-texel : (px py : ℕ) → px < blockWidth two → py < 4 → ((i : ℕ) → HasShare (half two) px i → 0 < getD across i 0) → ((j : ℕ) → HasShare 2 py j → 0 < getD down j 0)
+      → texelIn (half two) (nineOf (neededAbout two gx gy d bx by across down)) px py ≡ texelIn (half two) (about gx gy (wordsOf two gx gy d) bx by) px py
+  needed-texel px py lx ly a b =
+      texel-same (half two) px py (half-low two) lx ly (nineOf (neededAbout two gx gy d bx by across down)) (about gx gy (wordsOf two gx gy d) bx by) agree
+    where
+      agree : (i j : ℕ) → HasShare (half two) px i → HasShare 2 py j → nineOf (neededAbout two gx gy d bx by across down) i j ≡ about gx gy (wordsOf two gx gy d) bx by i j
+      agree i j hi hj =
+          let li : i < 3 = hi .0 in
+          let lj : j < 3 = hj .0 in
+          let ei : (3 * j + i) % 3 ≡ i = omega arith in
+          let ej : (3 * j + i) / 3 ≡ j = omega arith in
+          let some : 1 ≤ getD across i 0 * getD down j 0 = mul-le-mul (a i hi) (b j hj) in
+          entry (3 * j + i) (omega arith) ∙ rw (ei, ej, ne-eqb (getD across i 0 * getD down j 0) 0 (λ e. omega arith))
+
+-- the shares of a place, by index
+share-at : (h p k : ℕ) → HasShare h p k → 0 < getD (shares h p) k 0
+share-at h p zero s = s .1
+share-at h p (suc zero) s = s .1
+share-at h p (suc (suc zero)) s = s .1
+share-at h p (suc (suc (suc k))) s = absurd (not-suc-le-zero {n = k} (omega (arith, s .0)))
+
+every-at : (h p k : ℕ) → HasShare h p k → 0 < getD every k 0
+every-at h p zero s = omega arith
+every-at h p (suc zero) s = omega arith
+every-at h p (suc (suc zero)) s = omega arith
+every-at h p (suc (suc (suc k))) s = absurd (not-suc-le-zero {n = k} (omega (arith, s .0)))
+
+pub few-every : FewShares every
+few-every = record { few = few }
+  where
+    few : (k : ℕ) → k < 3 → getD every k 0 ≤ 8
+    few zero l = omega arith
+    few (suc zero) l = omega arith
+    few (suc (suc zero)) l = omega arith
+    few (suc (suc (suc k))) l = absurd (not-suc-le-zero {n = k} (omega arith))
+
+-- where a texel lies in its block
+pub place : (two : Bool) (x y : ℕ) {w : ℕ} → w ≡ blockWidth two → Place two (x % w) (y % 4)
+place two x y e = record { across = rw e (mod-lt x (omega (arith, half-low two))); down = omega arith }
+
+-- a texel from the words that it needs
+pub texel-needed : (two : Bool) (gx gy : ℕ) (d : List ℕ) (x y : ℕ) {w r : ℕ} {across down : List ℕ} {nine : List PVRTCTexelInfo} → w ≡ blockWidth two
+    → across ≡ shares (half two) (x % w) → down ≡ shares 2 (y % 4) → nine ≡ neededAbout two gx gy d (x / w) (y / 4) across down
+    → r ≡ packed (texelIn (half two) (nineOf nine) (x % w) (y % 4)) → r ≡ texelWord two gx gy d x y
+unfolding texelAt
+texel-needed two gx gy d x y ew ea ed en er =
+    let px : ℕ = x % blockWidth two in
+    let wide : 0 < blockWidth two = omega (arith, half-low two) in
+    er
+    ∙ rw (en, ea, ed, ew)
+    (ap packed
+    (needed-texel two gx gy d (x / blockWidth two) (y / 4) (shares (half two) px) (shares 2 (y % 4)) px (y % 4) (mod-lt x wide) (omega arith)
+    (share-at (half two) px) (share-at 2 (y % 4))))
+
+-- and from those that its row needs
+pub texel-of-row : (two : Bool) (gx gy : ℕ) (d : List ℕ) (x y : ℕ)
+    → packed (texelIn (half two) (nineOf (rowWords two gx gy d (x / blockWidth two) (y / 4) (y % 4))) (x % blockWidth two) (y % 4)) ≡ texelWord two gx gy d x y
+unfolding texelAt
+texel-of-row two gx gy d x y =
+    let px : ℕ = x % blockWidth two in
+    let wide : 0 < blockWidth two = omega (arith, half-low two) in
+    ap packed
+    (needed-texel two gx gy d (x / blockWidth two) (y / 4) every (shares 2 (y % 4)) px (y % 4) (mod-lt x wide) (omega arith) (every-at (half two) px) (share-at 2 (y % 4)))
+
+-- the words about a block become those about the next one
+module _ (two : Bool) (gx gy : ℕ) (d : List ℕ) (q bx by py : ℕ) (lq : q < gx) (e : bx ≡ beside gx q 2) where
+  abbrev word : ℕ → ℕ → ℕ → PVRTCTexelInfo
+  word b i j = wordIf (1 * share 2 py j) (about gx gy (wordsOf two gx gy d) b by i j)
+
+  first : (j : ℕ) → word q 1 j ≡ word bx 0 j
+  first j = rw (e, beside-own gx q lq, back-again gx q lq)
+
+  second : (j : ℕ) → word q 2 j ≡ word bx 1 j
+  second j = rw (← e, beside-own gx bx (rw e (beside-below gx q 2 (omega arith))))
+
+  pub slid-is : slid two gx gy d bx by py (rowWords two gx gy d q by py) ≡ rowWords two gx gy d bx by py
+  unfolding slid neededAbout tab
+  slid-is = rw (first 0, first 1, first 2, second 0, second 1, second 2, one-mul (share 2 py 0), one-mul (share 2 py 1), one-mul (share 2 py 2))
+
+-- with what the calls inside give
+pub slid-to : (two : Bool) (gx gy : ℕ) (d : List ℕ) (bx by py : ℕ) (nine : List PVRTCTexelInfo) {row : List ℕ} {u v w : PVRTCTexelInfo} → row ≡ shares 2 py
+    → u ≡ wordIf (getD row 0 0) (wordAbout two gx gy d bx by 2) → v ≡ wordIf (getD row 1 0) (wordAbout two gx gy d bx by 5) → w ≡ wordIf (getD row 2 0) (wordAbout two gx gy d bx by 8)
+    → getD nine 1 blank ∷ getD nine 2 blank ∷ u ∷ getD nine 4 blank ∷ getD nine 5 blank ∷ v ∷ getD nine 7 blank ∷ getD nine 8 blank ∷ w ∷ [] ≡ slid two gx gy d bx by py nine
+unfolding slid
+slid-to two gx gy d bx by py nine er eu ev ew = rw (eu, ev, ew, er)
