@@ -1,11 +1,15 @@
 -- Laws of eight numbers as the bytes of one, and of a row of weights filled by one sum, for any rule. Assumes nothing.
-use mathlib.Core.Path.{_≡_, ap, ap₂, _∙_}
+use mathlib.Core.Path.{_≡_, sym, ap, ap₂, _∙_}
 use mathlib.Core.Bool.{Bool, true, false, cond}
 use mathlib.Core.List.{List, [], _∷_}
 use Prim.Native.Nat.{ℕ, zero, suc, _+_, _*_, _/_, _%_, _-_, _^_, _≤_, _<_}
-use native.Mathlib.Nat.{mul-le-mul-left}
+use native.Mathlib.Nat.{mul-le-mul-left, zero-div}
 use native.Mathlib.Omega.{arith}
 use lib.Bits.{bitAnd, and-block, and-mask, and-zero-l, and-zero-r}
+use lib.ListN.{getD}
+use lib.Pow.{shr-shr}
+use Rattle.facts.proofs.Tab.{getD-tab}
+use Rattle.facts.specs.Tab.{tab}
 use Rattle.lanes.specs.Eight.{row, inBytes, besideRow, filledRow, LowRow}
 
 -- eight numbers count, and not how they are written
@@ -133,89 +137,23 @@ filled-is hx vx keep k n u e h ek ln lu le =
         omega (arith, mul-le-mul-left hx a, mul-le-mul-left vx b)
 
 -- byte x of a row
-pub byte-at : (g : ℕ → ℕ) (x : ℕ) → ((i : ℕ) → i < 8 → g i ≤ 8) → x < 8 → inBytes g / 256 ^ x % 16 ≡ g x
-unfolding inBytes
-byte-at g zero low h =
-    let l0 = low 0 (omega arith) in
-    let l1 = low 1 (omega arith) in
-    let l2 = low 2 (omega arith) in
-    let l3 = low 3 (omega arith) in
-    let l4 = low 4 (omega arith) in
-    let l5 = low 5 (omega arith) in
-    let l6 = low 6 (omega arith) in
-    let l7 = low 7 (omega arith) in
-    omega arith
-byte-at g (suc zero) low h =
-    let l0 = low 0 (omega arith) in
-    let l1 = low 1 (omega arith) in
-    let l2 = low 2 (omega arith) in
-    let l3 = low 3 (omega arith) in
-    let l4 = low 4 (omega arith) in
-    let l5 = low 5 (omega arith) in
-    let l6 = low 6 (omega arith) in
-    let l7 = low 7 (omega arith) in
-    omega arith
-byte-at g (suc (suc zero)) low h =
-    let l0 = low 0 (omega arith) in
-    let l1 = low 1 (omega arith) in
-    let l2 = low 2 (omega arith) in
-    let l3 = low 3 (omega arith) in
-    let l4 = low 4 (omega arith) in
-    let l5 = low 5 (omega arith) in
-    let l6 = low 6 (omega arith) in
-    let l7 = low 7 (omega arith) in
-    omega arith
-byte-at g (suc (suc (suc zero))) low h =
-    let l0 = low 0 (omega arith) in
-    let l1 = low 1 (omega arith) in
-    let l2 = low 2 (omega arith) in
-    let l3 = low 3 (omega arith) in
-    let l4 = low 4 (omega arith) in
-    let l5 = low 5 (omega arith) in
-    let l6 = low 6 (omega arith) in
-    let l7 = low 7 (omega arith) in
-    omega arith
-byte-at g (suc (suc (suc (suc zero)))) low h =
-    let l0 = low 0 (omega arith) in
-    let l1 = low 1 (omega arith) in
-    let l2 = low 2 (omega arith) in
-    let l3 = low 3 (omega arith) in
-    let l4 = low 4 (omega arith) in
-    let l5 = low 5 (omega arith) in
-    let l6 = low 6 (omega arith) in
-    let l7 = low 7 (omega arith) in
-    omega arith
-byte-at g (suc (suc (suc (suc (suc zero))))) low h =
-    let l0 = low 0 (omega arith) in
-    let l1 = low 1 (omega arith) in
-    let l2 = low 2 (omega arith) in
-    let l3 = low 3 (omega arith) in
-    let l4 = low 4 (omega arith) in
-    let l5 = low 5 (omega arith) in
-    let l6 = low 6 (omega arith) in
-    let l7 = low 7 (omega arith) in
-    omega arith
-byte-at g (suc (suc (suc (suc (suc (suc zero)))))) low h =
-    let l0 = low 0 (omega arith) in
-    let l1 = low 1 (omega arith) in
-    let l2 = low 2 (omega arith) in
-    let l3 = low 3 (omega arith) in
-    let l4 = low 4 (omega arith) in
-    let l5 = low 5 (omega arith) in
-    let l6 = low 6 (omega arith) in
-    let l7 = low 7 (omega arith) in
-    omega arith
-byte-at g (suc (suc (suc (suc (suc (suc (suc zero))))))) low h =
-    let l0 = low 0 (omega arith) in
-    let l1 = low 1 (omega arith) in
-    let l2 = low 2 (omega arith) in
-    let l3 = low 3 (omega arith) in
-    let l4 = low 4 (omega arith) in
-    let l5 = low 5 (omega arith) in
-    let l6 = low 6 (omega arith) in
-    let l7 = low 7 (omega arith) in
-    omega arith
-byte-at g (suc (suc (suc (suc (suc (suc (suc (suc x)))))))) low h = absurd (omega arith)
+byte-in : (xs : List ℕ) (x : ℕ) → Below 16 xs → row xs / 2 ^ (8 * x) % 16 ≡ getD xs x 0
+byte-in [] x b = rw (zero-div (2 ^ (8 * x)))
+byte-in (y ∷ ys) zero b = let h = b .0 in omega arith
+byte-in (y ∷ ys) (suc x) b =
+    let h = b .0 in
+    let e : 8 * suc x ≡ 8 + 8 * x = omega arith in
+    let f : row (y ∷ ys) / 256 ≡ row ys = omega arith in
+    ap (λ (n : ℕ). row (y ∷ ys) / 2 ^ n % 16) e ∙ ap (λ (n : ℕ). n % 16) (sym (shr-shr (row (y ∷ ys)) 8 (8 * x)) ∙ ap (λ (n : ℕ). n / 2 ^ (8 * x)) f) ∙ byte-in ys x (b .1)
+
+pub byte-at : (g : ℕ → ℕ) (x : ℕ) → ((i : ℕ) → i < 8 → g i ≤ 8) → x < 8 → inBytes g / 2 ^ (8 * x) % 16 ≡ g x
+unfolding inBytes tab
+byte-at g x low h =
+    byte-in (g 0 ∷ g 1 ∷ g 2 ∷ g 3 ∷ g 4 ∷ g 5 ∷ g 6 ∷ g 7 ∷ []) x (small 0 (omega arith), (small 1 (omega arith), (small 2 (omega arith), (small 3 (omega arith), (small 4 (omega arith), (small 5 (omega arith), (small 6 (omega arith), (small 7 (omega arith), tt))))))))
+    ∙ getD-tab g 8 x 0 h
+  where
+    small : (i : ℕ) → i < 8 → g i < 16
+    small i l = omega (arith, low i l)
 
 -- a row of weights is low
 pub low-row : (f : ℕ → ℕ) → ((x : ℕ) → x < 8 → f x ≤ 8) → LowRow (inBytes f)

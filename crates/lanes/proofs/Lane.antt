@@ -10,7 +10,7 @@ use Rattle.texel.specs.declared.PVRTCTexelColorInt.{PVRTCTexelColorInt}
 use Rattle.texel.specs.Inner.{toBytes, pixel, Low, Bytes}
 use Rattle.texel.specs.Texel.{scaleColor, scaleAlpha, blended, packed, blend}
 use Rattle.texel.proofs.Blend as texel
-use Rattle.lanes.specs.Lanes.{lanes, bytes, clear, multiples, top, grown, fitted, bias, joined, mixedLanes, texelLanes, Mask}
+use Rattle.lanes.specs.Lanes.{lanes, widened, bytes, clear, multiples, top, grown, fitted, bias, joined, mixedLanes, texelLanes, Mask}
 
 -- a mask acts on each lane apart
 step : (x rest low m v : ℕ) → x < 65536 → low < 65536 → bitAnd x low ≡ v → bitAnd (x + 65536 * rest) (low + 65536 * m) ≡ v + 65536 * bitAnd rest m
@@ -99,6 +99,17 @@ module _ (p q : ℕ) (pos : 0 < p) (e : q * p ≡ 65536) where
         ap (λ (x : ℕ). bitAnd x bytes) (divided b r g a)
         ∙ and-bytes (b / p + q * (r % p)) (r / p + q * (g % p)) (g / p + q * (a % p)) (a / p) (within-lane b r hb) (within-lane r g hr) (within-lane g a hg)
         ∙ same (kept b r hb) (kept r g hr) (kept g a hg) (omega arith)
+
+-- lanes of four bits, each followed by its top bit
+tops : (b r g : ℕ) → b < 16 → r < 16 → g < 16 → bitAnd (lanes b r g 0 / 8) 0x0000000100010001 ≡ lanes (b / 8) (r / 8) (g / 8) 0
+tops b r g hb hr hg =
+    ap (λ (x : ℕ). bitAnd x 0x0000000100010001) (divided 8 8192 (omega arith) refl b r g 0)
+    ∙ masked (b / 8 + 8192 * (r % 8)) (r / 8 + 8192 * (g % 8)) (g / 8 + 8192 * (0 % 8)) (0 / 8) 1 1 1 0 (b / 8) (r / 8) (g / 8) 0
+    (omega arith) (omega arith) (omega arith) (omega arith) (omega arith) (omega arith)
+    (and-mask (b / 8 + 8192 * (r % 8)) 1 ∙ omega arith) (and-mask (r / 8 + 8192 * (g % 8)) 1 ∙ omega arith) (and-mask (g / 8 + 8192 * (0 % 8)) 1 ∙ omega arith) (and-zero-r (0 / 8))
+
+pub widened-is : (b r g : ℕ) → b < 16 → r < 16 → g < 16 → widened (lanes b r g 0) ≡ lanes (b * 2 + b / 8) (r * 2 + r / 8) (g * 2 + g / 8) 0
+widened-is b r g hb hr hg = omega (arith, tops b r g hb hr hg)
 
 -- sums as lanes, alpha's doubled; four numbers of 8 bits as lanes
 abbrev pub sumLanes : PVRTCTexelColorInt → ℕ

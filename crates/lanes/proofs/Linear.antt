@@ -1,13 +1,63 @@
 -- Sums of shares are linear in the lanes: what the window sums, down and across, is the nine words' sums as lanes. Assumes nothing.
-use mathlib.Core.Path.{_≡_, refl, _∙_}
+use mathlib.Core.Path.{_≡_, refl, ap, _∙_}
 use mathlib.Core.Bool.{Bool}
-use Prim.Native.Nat.{ℕ, zero, suc, _+_, _*_, _/_, _%_, _-_}
+use Prim.Native.Nat.{ℕ, zero, suc, _+_, _*_, _/_, _%_, _-_, _≤_, _<_}
+use native.Mathlib.Nat.{mul-le-mul-left}
 use native.Mathlib.Omega.{arith}
 use Rattle.facts.specs.Sum.{sum}
 use Rattle.texel.specs.Inner.{side, sumsTo}
 use Rattle.texel.specs.Texel.{Words, factor, share}
+use Rattle.lanes.specs.Column.{most}
 use Rattle.lanes.specs.Lanes.{lanes, colorLanes, shared}
 use Rattle.lanes.proofs.Lane.{sumLanes}
+
+-- the own block's share, in the left half and in the right half
+own-left : (h i : ℕ) → i ≤ h → share h i 1 ≡ h + i
+unfolding share
+own-left h i k = omega arith
+
+own-right : (h i : ℕ) → h ≤ i → i ≤ 3 * h → share h i 1 ≡ 3 * h - i
+unfolding share
+own-right h i k m = omega arith
+
+-- a row of sums goes by steps: the first, one more in the left half, one more in the right half
+pub shared-first : (h l c r : ℕ) → h * l + h * c ≡ shared h 0 l c r
+unfolding shared share
+shared-first h l c r =
+    let x : h - 0 ≡ h = omega arith in
+    let z : 0 - h ≡ 0 = omega arith in
+    omega (arith, ap (λ (n : ℕ). n * l) x, ap (λ (n : ℕ). n * c) (own-left h 0 (omega arith)), ap (λ (n : ℕ). n * r) z)
+
+pub step-left : (h i l c r : ℕ) → i < h → shared h (i + 1) l c r + l ≡ shared h i l c r + c
+unfolding shared share
+step-left h i l c r k =
+    let x : h - i ≡ h - (i + 1) + 1 = omega arith in
+    let z : i + 1 - h ≡ i - h = omega arith in
+    moved (h - (i + 1)) (i - h) x (own-left h i (omega arith)) (own-left h (i + 1) (omega arith)) z
+  where
+    moved : (a e : ℕ) {a' b b' e' : ℕ} → a' ≡ a + 1 → b ≡ h + i → b' ≡ h + (i + 1) → e' ≡ e → a * l + b' * c + e' * r + l ≡ a' * l + b * c + e * r + c
+    moved a e x y y' z = rw (x, y, y', z) (omega arith)
+
+pub step-right : (h i l c r : ℕ) → h ≤ i → i < 2 * h → shared h (i + 1) l c r + c ≡ shared h i l c r + r
+unfolding shared share
+step-right h i l c r k m =
+    let x : h - (i + 1) ≡ h - i = omega arith in
+    let y : 3 * h - i ≡ 3 * h - (i + 1) + 1 = omega arith in
+    let z : i + 1 - h ≡ i - h + 1 = omega arith in
+    moved (h - i) (3 * h - (i + 1)) (i - h) x (own-right h i k (omega arith) ∙ y) (own-right h (i + 1) (omega arith) (omega arith)) z
+  where
+    moved : (a d e : ℕ) {a' b b' e' : ℕ} → a' ≡ a → b ≡ d + 1 → b' ≡ d → e' ≡ e + 1 → a' * l + b' * c + e' * r + c ≡ a * l + b * c + e * r + r
+    moved a d e x y y' z = rw (x, y, y', z) (omega arith)
+
+-- the shares of a place are 2h in all
+pub shared-le : (h i n l c r : ℕ) → i ≤ 2 * h → l ≤ n → c ≤ n → r ≤ n → shared h i l c r ≤ 2 * h * n
+unfolding shared share
+shared-le h i n l c r k hl hc hr =
+    let all : h - i + (2 * h - (h - i) - (i - h)) + (i - h) ≡ 2 * h = omega arith in
+    omega (arith, ap (λ (m : ℕ). m * n) all, mul-le-mul-left (h - i) hl, mul-le-mul-left (2 * h - (h - i) - (i - h)) hc, mul-le-mul-left (i - h) hr)
+
+pub sums-fit : (h i l c r : ℕ) → h ≤ 4 → i ≤ 2 * h → l ≤ most → c ≤ most → r ≤ most → shared h i l c r ≤ 288230376151711744
+sums-fit h i l c r hh hi hl hc hr = omega (arith, shared-le h i most l c r hi hl hc hr)
 
 -- a sum of lanes, by its lanes
 sum-lanes : (b r g a f : ℕ → ℕ) (n : ℕ)

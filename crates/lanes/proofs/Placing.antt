@@ -1,5 +1,6 @@
 -- Where words stand: bits spread by masks, and an address as the sum of what its column and its row add. Assumes nothing.
 use mathlib.Core.Path.{_≡_, refl, sym, ap, ap₂, _∙_}
+use mathlib.Core.List.{List}
 use Prim.Native.Nat.{ℕ, zero, suc, _+_, _*_, _/_, _%_, _-_, _≤_, _<_, min}
 use native.Mathlib.Nat.{add-mod-right, mod-self, mod-eq-of-lt}
 use native.Mathlib.Omega.{arith}
@@ -10,10 +11,13 @@ use Rattle.grid.proofs.Address.{placed, address-small}
 use Rattle.grid.proofs.Powers.{power-above}
 use Rattle.grid.proofs.Spreading.{by-table}
 use Rattle.grid.proofs.Torus.{beside-below, beside-own}
-use Rattle.grid.specs.Grid.{Power, log2, address, beside, spreadBits, Placed}
+use Rattle.grid.specs.Grid.{Power, log2, address, blockAddress, beside, spreadBits, Placed}
 use Rattle.texel.proofs.Nine.{located}
+use Rattle.texel.specs.Inner.{Grid}
+use Rattle.lanes.specs.declared.Column.{Column}
 use Rattle.lanes.specs.declared.Strip.{Strip}
-use Rattle.lanes.specs.Strip.{stripOf, InStrip, placeIn}
+use Rattle.lanes.specs.Column.{columnOf}
+use Rattle.lanes.specs.Strip.{stripOf, InColumn}
 
 -- eight bits spread by masks
 abbrev pub once : ℕ → ℕ
@@ -61,6 +65,20 @@ placed-row gx gy y e px py lx ly h = rw e (placed gx gy 0 y px py lx ly (power-a
 pub beside-in : (g y k : ℕ) {r : ℕ} → Power g → r ≡ beside g y k → r < g
 beside-in g y k p e = rw e (beside-below g y k (power-above g p))
 
+-- a row of a grid whose words stand in a run of `len` bytes
+pub record InStrip (s : Strip) (len : ℕ) : Type 0 where
+  pub is : s ≡ stripOf (s .nx) (s .ny) (s .by)
+  pub grid : Grid (s .nx) (s .ny) len
+  pub row : s .by < s .ny
+
+-- the address of the word in column x of the row above, own or below (0, 1, 2)
+abbrev pub placeIn : Strip → ℕ → ℕ → ℕ
+placeIn s x j = blockAddress (s .nx) (s .ny) x (beside (s .ny) (s .by) j)
+
+-- the three words of column x, summed downwards
+abbrev pub columnIn : Strip → List ℕ → ℕ → Column
+columnIn s d x = columnOf d (placeIn s x 0) (placeIn s x 1) (placeIn s x 2)
+
 -- the words of a column of the row
 module _ {s : Strip} {len : ℕ} (i : InStrip s len) where
   m-is : s .m ≡ min (s .nx) (s .ny)
@@ -93,14 +111,20 @@ module _ {s : Strip} {len : ℕ} (i : InStrip s len) where
           (beside-below (s .ny) (s .by) j (power-above (s .ny) (i .grid .power-down))) refl
           (ap₂ (λ (m n : ℕ). m + n) (e ∙ ap (λ (n : ℕ). address (log2 n) x 0) m-is) ev ∙ parts (log2 (min (s .nx) (s .ny))) x (beside (s .ny) (s .by) j))
 
-      pub word-u : (p + s .u ≡ placeIn s x 0) × (8 * (p + s .u) + 8 ≤ len)
+      word-u : (p + s .u ≡ placeIn s x 0) × (8 * (p + s .u) + 8 ≤ len)
       word-u = word-in 0 (s .u) u-is
 
-      pub word-o : (p + s .o ≡ placeIn s x 1) × (8 * (p + s .o) + 8 ≤ len)
+      word-o : (p + s .o ≡ placeIn s x 1) × (8 * (p + s .o) + 8 ≤ len)
       word-o = word-in 1 (s .o) o-is
 
-      pub word-e : (p + s .e ≡ placeIn s x 2) × (8 * (p + s .e) + 8 ≤ len)
+      word-e : (p + s .e ≡ placeIn s x 2) × (8 * (p + s .e) + 8 ≤ len)
       word-e = word-in 2 (s .e) e-is
+
+      pub in-column : InColumn s p len
+      in-column = record { above = word-u .1; own = word-o .1; below = word-e .1 }
+
+      pub words-are : (p + s .u ≡ placeIn s x 0) × (p + s .o ≡ placeIn s x 1) × (p + s .e ≡ placeIn s x 2)
+      words-are = (word-u .0, word-o .0, word-e .0)
 
 -- the next column, round the torus
 pub next-is : (g q : ℕ) → q + 1 < g → q + 1 ≡ beside g q 2

@@ -9,16 +9,19 @@ use lib.ListN.{length}
 use Rattle.facts.proofs.Numbers.{split}
 use Rattle.grid.proofs.Counts.{block-start, blocks-cover}
 use Rattle.grid.proofs.Powers.{power-above}
-use Rattle.grid.specs.Grid.{half, blockWidth}
+use Rattle.grid.specs.Grid.{half, blockWidth, log2, address, Placed}
 use Rattle.paint.proofs.Laid.{Part, part-empty, columns-part}
 use Rattle.paint.proofs.Painted.{painted-same}
 use Rattle.paint.specs.Paint.{painted}
 use Rattle.texel.proofs.Shares.{half-low}
 use Rattle.texel.specs.Texel.{packed, texelIn, about, texelAt, wordsOf, texelWord}
+use Rattle.lanes.specs.declared.Column.{Column}
 use Rattle.lanes.specs.declared.Spot.{Spot}
 use Rattle.lanes.specs.declared.Strip.{Strip}
 use Rattle.lanes.proofs.Laying.{start-small}
-use Rattle.lanes.specs.Strip.{stripOf, InStrip, Ready, SpotAsked, SpotFits, spotOf, withBlockRow}
+use Rattle.lanes.proofs.Placing.{InStrip, placeIn, columnIn, placed-column, in-column, words-are}
+use Rattle.lanes.specs.Column.{columnOf, Fits}
+use Rattle.lanes.specs.Strip.{stripOf, InColumn, Ready, SpotAsked, SpotFits, spotOf, withBlockRow}
 
 -- a block is some texels across
 wide : (two : Bool) → 0 < blockWidth two
@@ -99,10 +102,24 @@ module _ (two : Bool) {w h gx gy by len room : ℕ} (r : Ready two w h gx gy by 
       let full : min w (bx * blockWidth two) ≡ w = omega arith in
       (rw full at part) .is
 
-  -- the strip of the row, and a column of it
-  pub in-strip : (x : ℕ) {s : Strip} → s ≡ stripOf gx gy by → x < gx → InStrip s len × (x < s .nx)
-  unfolding stripOf
-  in-strip x e h = rw e (record { is = refl; grid = r .grid; row = r .row }, h)
+  -- column x of the row, and what it adds to an address
+  module _ (x : ℕ) {s : Strip} (es : s ≡ stripOf gx gy by) (hx : x < gx) where
+    in-strip : InStrip s len × (x < s .nx)
+    unfolding stripOf
+    in-strip = rw es (record { is = refl; grid = r .grid; row = r .row }, hx)
+
+    pub placed-at : Placed (s .m) x 0
+    placed-at = placed-column (in-strip .0) x (in-strip .1)
+
+    module _ {q : ℕ} (e : q ≡ address (log2 (s .m)) x 0) where
+      pub words-in : InColumn s q len
+      words-in = in-column (in-strip .0) x (in-strip .1) e
+
+      pub words-at : (q + s .u ≡ placeIn s x 0) × (q + s .o ≡ placeIn s x 1) × (q + s .e ≡ placeIn s x 2)
+      words-at = words-are (in-strip .0) x (in-strip .1) e
+
+      pub column-of : (d : List ℕ) {k : Column} → (k ≡ columnOf d (q + s .u) (q + s .o) (q + s .e)) × Fits k → (k ≡ columnIn s d x) × Fits k
+      column-of d ek = (ek .0 ∙ rw (words-at .0, words-at .1, words-at .2), ek .1)
 
   pub some-columns : 0 < gx
   some-columns = power-above gx (r .grid .power-across)

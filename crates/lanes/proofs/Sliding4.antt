@@ -11,8 +11,8 @@ use Rattle.lanes.specs.declared.Column.{Column}
 use Rattle.lanes.specs.declared.Strip.{Strip}
 use Rattle.lanes.specs.Column.{wordAt, Fits}
 use Rattle.lanes.specs.Four.{codesOf, inBlock4}
-use Rattle.lanes.specs.Strip.{stripOf, columnIn, placeIn}
-use Rattle.lanes.proofs.Placing.{slide-left, slide-own, last-before}
+use Rattle.lanes.specs.Strip.{stripOf}
+use Rattle.lanes.proofs.Placing.{columnIn, placeIn, slide-left, slide-own, last-before}
 use Rattle.lanes.proofs.Sliding.{of-run}
 use Rattle.lanes.proofs.Texel4.{texel-is}
 
@@ -26,26 +26,26 @@ pub record Slid4 (s : Strip) (g : ℕ) (d : List ℕ) (bx : ℕ) (l c : Column) 
   pub low : k .s ≤ 4
 
 -- before the first block stands the last column of the row
-pub start4 : {s : Strip} (g : ℕ) {d : List ℕ} {l c : Column} {k : Codes} → 0 < g → (l ≡ columnIn s d (g - 1)) × Fits l → (c ≡ columnIn s d 0) × Fits c
-    → (k ≡ codesOf (wordAt d (placeIn s 0 1))) × (k .s ≤ 4) → Slid4 s g d 0 l c k
-start4 {s} g {d} pos el ec ek =
+pub start4 : {s : Strip} (g : ℕ) {d : List ℕ} {z : ℕ} {l c : Column} {k : Codes} → 0 < g → (l ≡ columnIn s d (g - 1)) × Fits l → (c ≡ columnIn s d 0) × Fits c
+    → z ≡ placeIn s 0 1 → (k ≡ codesOf (wordAt d z)) × (k .s ≤ 4) → Slid4 s g d 0 l c k
+start4 {s} g {d} pos el ec ez ek =
     record {
       left = el .0 ∙ ap (columnIn s d) (last-before g pos);
       own = ec .0 ∙ ap (columnIn s d) (sym (beside-own g 0 pos));
-      codes = ek .0 ∙ ap (λ (x : ℕ). codesOf (wordAt d (placeIn s x 1))) (sym (beside-own g 0 pos));
+      codes = ek .0 ∙ ap (λ (z : ℕ). codesOf (wordAt d z)) (ez ∙ ap (λ (x : ℕ). placeIn s x 1) (sym (beside-own g 0 pos)));
       fits-left = el .1;
       fits-own = ec .1;
       low = ek .1;
     }
 
 -- a step: the next column comes in
-pub slide4 : {s : Strip} {g : ℕ} {d : List ℕ} {bx x : ℕ} {l c r : Column} {k n : Codes} → Slid4 s g d bx l c k → x ≡ beside g bx 2
-    → (r ≡ columnIn s d x) × Fits r → (n ≡ codesOf (wordAt d (placeIn s x 1))) × (n .s ≤ 4) → Slid4 s g d (bx + 1) c r n
-slide4 {s} {g} {d} {bx} w ex er en =
+pub slide4 : {s : Strip} {g : ℕ} {d : List ℕ} {bx x z : ℕ} {l c r : Column} {k n : Codes} → Slid4 s g d bx l c k → x ≡ beside g bx 2
+    → (r ≡ columnIn s d x) × Fits r → z ≡ placeIn s x 1 → (n ≡ codesOf (wordAt d z)) × (n .s ≤ 4) → Slid4 s g d (bx + 1) c r n
+slide4 {s} {g} {d} {bx} w ex er ez en =
     record {
       left = rw (slide-left g bx) at (w .own);
       own = er .0 ∙ ap (columnIn s d) (ex ∙ slide-own g bx);
-      codes = en .0 ∙ ap (λ (x : ℕ). codesOf (wordAt d (placeIn s x 1))) (ex ∙ slide-own g bx);
+      codes = en .0 ∙ ap (λ (z : ℕ). codesOf (wordAt d z)) (ez ∙ ap (λ (x : ℕ). placeIn s x 1) (ex ∙ slide-own g bx));
       fits-left = w .fits-own;
       fits-own = er .1;
       low = en .1;

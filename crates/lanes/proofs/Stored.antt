@@ -1,7 +1,7 @@
 -- Rows of stored weights, byte by byte of the modulation. Assumes nothing.
 use mathlib.Core.Path.{_≡_, refl, sym, ap, ap₂, _∙_}
 use mathlib.Core.Bool.{Bool, true, false, cond}
-use mathlib.Core.List.{List}
+use mathlib.Core.List.{List, [], _∷_}
 use Prim.Native.Nat.{ℕ, zero, suc, _+_, _*_, _/_, _%_, _-_, _^_, _≤_, _<_}
 use native.Mathlib.Nat.{mul-le-mul}
 use native.Mathlib.Omega.{arith}
@@ -9,7 +9,9 @@ use lib.Dec.{eqb, eqb→eq}
 use lib.ListN.{getD}
 use lib.Pow.{shr-shr}
 use Rattle.facts.proofs.Finite.{below}
+use Rattle.facts.proofs.Tab.{getD-tab}
 use Rattle.facts.specs.Bits.{isSet}
+use Rattle.facts.specs.Tab.{tab}
 use Rattle.word.proofs.Bounds.{weights-2, weight-le}
 use Rattle.word.specs.Word.{modulation, mode, code, stored2, weight2}
 use Rattle.lanes.specs.declared.Own.{Own}
@@ -35,13 +37,10 @@ unfolding bitsOf codesOf byteRow inBytes
 first-is true b h = eqb→eq _ _ (below (λ b. eqb (firstForm (spreadByte true b)) (byteRow true 0 false b)) 256 tt b h)
 first-is false b h = eqb→eq _ _ (below (λ b. eqb (firstForm (spreadByte false b)) (byteRow false 0 false b)) 256 tt b h)
 
-pub odd-one : (b : ℕ) → b < 256 → codesOf b * 256 ≡ byteRow true 1 false b
+pub odd-is : (one : Bool) (b : ℕ) → b < 256 → cond one (codesOf b * 256) (bitsOf b) ≡ byteRow one 1 false b
 unfolding bitsOf codesOf byteRow inBytes
-odd-one b h = eqb→eq _ _ (below (λ b. eqb (codesOf b * 256) (byteRow true 1 false b)) 256 tt b h)
-
-pub odd-zero : (b : ℕ) → b < 256 → bitsOf b ≡ byteRow false 1 false b
-unfolding bitsOf codesOf byteRow inBytes
-odd-zero b h = eqb→eq _ _ (below (λ b. eqb (bitsOf b) (byteRow false 1 false b)) 256 tt b h)
+odd-is true b h = eqb→eq _ _ (below (λ b. eqb (codesOf b * 256) (byteRow true 1 false b)) 256 tt b h)
+odd-is false b h = eqb→eq _ _ (below (λ b. eqb (bitsOf b) (byteRow false 1 false b)) 256 tt b h)
 
 pub third-is : (one bit : Bool) (b : ℕ) → b < 256 → thirdForm bit (spreadByte one b) ≡ byteRow one 2 bit b
 unfolding bitsOf codesOf byteRow inBytes
@@ -110,7 +109,7 @@ row-low w y h = low-row _ (λ x hx. weight-le true w (8 * y + x) (place-lt y x h
 
 pub rows-low : (w : List ℕ) → LowRows (rowsOf w)
 unfolding rowsOf
-rows-low w = record { w0 = row-low w 0 (omega arith); w1 = row-low w 1 (omega arith); w2 = row-low w 2 (omega arith); w3 = row-low w 3 (omega arith) }
+rows-low w = record { low = λ y h. rw (getD-tab (weightRow w) 4 y 0 h) (row-low w y h) }
 
 -- the bytes of a word, as the code reads them
 pub record Held (d : List ℕ) (z b0 b1 b2 b3 b4 : ℕ) : Type 0 where
@@ -170,8 +169,8 @@ module _ (d : List ℕ) (z : ℕ) {b0 b1 b2 b3 b4 : ℕ} (h : Held d z b0 b1 b2 
 
   pub rows-are : {r0 r1 r2 r3 : ℕ} → r0 ≡ byteRow (eqb (b4 % 2) 1) 0 false b0 → r1 ≡ byteRow (eqb (b4 % 2) 1) 1 false b1
       → r2 ≡ byteRow (eqb (b4 % 2) 1) 2 (eqb (b0 % 2) 1) b2 → r3 ≡ byteRow (eqb (b4 % 2) 1) 1 false b3
-      → (record { w0 = r0; w1 = r1; w2 = r2; w3 = r3 } ≡ rowsOf w) × LowRows (record { w0 = r0; w1 = r1; w2 = r2; w3 = r3 })
-  unfolding rowsOf
+      → (record { w = r0 ∷ r1 ∷ r2 ∷ r3 ∷ [] } ≡ rowsOf w) × LowRows (record { w = r0 ∷ r1 ∷ r2 ∷ r3 ∷ [] })
+  unfolding rowsOf tab
   rows-are e0 e1 e2 e3 = rw (row-0 e0, row-1 e1, row-2 e2, row-3 e3) (refl, rows-low w)
 
 -- two bits, and how the fill counts by them
@@ -243,10 +242,10 @@ sum-fits hx vx l c r u e hh hv hl hc hr hu he =
     omega (arith, mul-le-mul hh (beside-le l c r hl hc hr), mul-le-mul hv a)
 
 -- the four rows, as the code fills them
-pub filled-are : (l c r : Rows) (k : Own) {w0 w1 w2 w3 : ℕ} → w0 ≡ filledRow (k .hx) (k .vx) (k .one * odds) (l .w0) (c .w0) (r .w0) (k .up) (c .w1)
-    → w1 ≡ filledRow (k .hx) (k .vx) (k .one * evens) (l .w1) (c .w1) (r .w1) (c .w0) (c .w2)
-    → w2 ≡ filledRow (k .hx) (k .vx) (k .one * odds) (l .w2) (c .w2) (r .w2) (c .w1) (c .w3)
-    → w3 ≡ filledRow (k .hx) (k .vx) (k .one * evens) (l .w3) (c .w3) (r .w3) (c .w2) (k .dn)
-    → record { w0 = w0; w1 = w1; w2 = w2; w3 = w3 } ≡ filledRows l c r k
-unfolding filledRows
+pub filled-are : (l c r : Rows) (k : Own) {w0 w1 w2 w3 : ℕ} → w0 ≡ filledRow (k .hx) (k .vx) (k .one * odds) (getD (l .w) 0 0) (getD (c .w) 0 0) (getD (r .w) 0 0) (k .up) (getD (c .w) 1 0)
+    → w1 ≡ filledRow (k .hx) (k .vx) (k .one * evens) (getD (l .w) 1 0) (getD (c .w) 1 0) (getD (r .w) 1 0) (getD (c .w) 0 0) (getD (c .w) 2 0)
+    → w2 ≡ filledRow (k .hx) (k .vx) (k .one * odds) (getD (l .w) 2 0) (getD (c .w) 2 0) (getD (r .w) 2 0) (getD (c .w) 1 0) (getD (c .w) 3 0)
+    → w3 ≡ filledRow (k .hx) (k .vx) (k .one * evens) (getD (l .w) 3 0) (getD (c .w) 3 0) (getD (r .w) 3 0) (getD (c .w) 2 0) (k .dn)
+    → record { w = w0 ∷ w1 ∷ w2 ∷ w3 ∷ [] } ≡ filledRows l c r k
+unfolding filledRows tab
 filled-are l c r k e0 e1 e2 e3 = rw (e0, e1, e2, e3)

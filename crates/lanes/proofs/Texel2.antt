@@ -7,7 +7,9 @@ use native.Mathlib.Nat.{zero-add, zero-div}
 use native.Mathlib.Omega.{arith}
 use lib.Dec.{eqb}
 use lib.ListN.{getD}
+use Rattle.facts.proofs.Tab.{getD-tab}
 use Rattle.facts.specs.Bits.{isSet}
+use Rattle.facts.specs.Tab.{tab}
 use Rattle.texel.proofs.Range.{words, filled-le}
 use Rattle.texel.specs.Texel.{Words, packed, near, filled, ruleAt, punched, texelIn}
 use Rattle.word.proofs.Bounds.{weights-2, never-punched}
@@ -15,8 +17,8 @@ use Rattle.word.specs.declared.Fill.the-variants.{Nothing, Around, AboveBelow, 
 use Rattle.word.specs.Word.{modulation, mode, weight2, fill2, wordOf}
 use Rattle.lanes.specs.declared.Rows.{Rows}
 use Rattle.lanes.specs.Column.{wordAt, columnOf}
-use Rattle.lanes.specs.Eight.{inBytes, weightRow, rowsOf, ownOf, filledRow, odds, evens, filledRows, rowAt, inRow2, inBlock2}
-use Rattle.lanes.specs.Lanes.{bytes, clear}
+use Rattle.lanes.specs.Eight.{inBytes, weightRow, rowsOf, ownOf, filledRow, odds, evens, filledAt, filledRows, inRow2, inBlock2}
+use Rattle.lanes.specs.Lanes.{bytes, clear, shared, texelLanes}
 use Rattle.lanes.proofs.Bytes.{bytes-same, maskOf, filled-is, byte-at}
 use Rattle.lanes.proofs.Texel4.{mode-is}
 use Rattle.lanes.proofs.Window.{window-texel}
@@ -58,24 +60,20 @@ module _ (n : Words) (x y : ℕ) where
   by-rule true false false false z = let e = z refl refl in omega arith
 
 -- the mask of a row, as the code makes it
-abbrev filledAt : Bool → ℕ → ℕ → Bool
-filledAt one y x = one && not (eqb ((x + y) % 2) 0)
+abbrev fillsAt : Bool → ℕ → ℕ → Bool
+fillsAt one y x = one && not (eqb ((x + y) % 2) 0)
 
-mask-0 : (one : Bool) → cond one 1 0 * odds ≡ maskOf (filledAt one 0)
-mask-0 true = refl
-mask-0 false = refl
-
-mask-1 : (one : Bool) → cond one 1 0 * evens ≡ maskOf (filledAt one 1)
-mask-1 true = refl
-mask-1 false = refl
-
-mask-2 : (one : Bool) → cond one 1 0 * odds ≡ maskOf (filledAt one 2)
-mask-2 true = refl
-mask-2 false = refl
-
-mask-3 : (one : Bool) → cond one 1 0 * evens ≡ maskOf (filledAt one 3)
-mask-3 true = refl
-mask-3 false = refl
+mask-is : (one : Bool) (y : ℕ) → y < 4 → cond one 1 0 * cond (eqb (y % 2) 0) odds evens ≡ maskOf (fillsAt one y)
+mask-is true zero h = refl
+mask-is true (suc zero) h = refl
+mask-is true (suc (suc zero)) h = refl
+mask-is true (suc (suc (suc zero))) h = refl
+mask-is true (suc (suc (suc (suc y)))) h = absurd (omega arith)
+mask-is false zero h = refl
+mask-is false (suc zero) h = refl
+mask-is false (suc (suc zero)) h = refl
+mask-is false (suc (suc (suc zero))) h = refl
+mask-is false (suc (suc (suc (suc y)))) h = absurd (omega arith)
 
 module _ (of : ℕ → ℕ → List ℕ) where
   abbrev nine : Words
@@ -92,19 +90,19 @@ module _ (of : ℕ → ℕ → List ℕ) where
   near-low x y = filled-le true of Nothing x y
 
   -- a row of a word's weights, on the strip
-  row-near : (k j y : ℕ) → y < 4 → weightRow (of k j) y ≡ inBytes (λ x. near 4 nine (8 * k + x) (4 * j + y))
+  row-near : (k j y q : ℕ) → y < 4 → q ≡ 4 * j + y → weightRow (of k j) y ≡ inBytes (λ x. near 4 nine (8 * k + x) q)
   unfolding weightRow near
-  row-near k j y h =
+  row-near k j y q h e =
       bytes-same _ _
       (λ x hx.
       let a : (8 * k + x) / 8 ≡ k = omega arith in
       let b : (8 * k + x) % 8 ≡ x = omega arith in
-      let c : (4 * j + y) / 4 ≡ j = omega arith in
-      let d : (4 * j + y) % 4 ≡ y = omega arith in
+      let c : q / 4 ≡ j = omega arith in
+      let d : q % 4 ≡ y = omega arith in
       rw (a, b, c, d))
 
-  left-near : (y : ℕ) → y < 4 → weightRow (of 0 1) y ≡ inBytes (λ x. near 4 nine x (4 + y))
-  left-near y h = row-near 0 1 y h ∙ bytes-same _ _ (λ x hx. ap (λ (i : ℕ). near 4 nine i (4 + y)) (zero-add x))
+  left-near : (y : ℕ) → y < 4 → weightRow (of 0 1) y ≡ inBytes (λ x. near 4 nine x (y + 4))
+  left-near y h = row-near 0 1 y (y + 4) h (omega arith) ∙ bytes-same _ _ (λ x hx. ap (λ (i : ℕ). near 4 nine i (y + 4)) (zero-add x))
 
   abbrev rows : Rows
   rows = filledRows (rowsOf (of 0 1)) (rowsOf own) (rowsOf (of 2 1)) (ownOf (of 1 0) own (of 1 2))
@@ -130,64 +128,48 @@ module _ (of : ℕ → ℕ → List ℕ) where
   abbrev values : ℕ → ℕ → ℕ
   values y x =
       near 4 nine (8 + x) (y + 4)
-      + cond (filledAt one y x) ((across bit high * (near 4 nine (7 + x) (y + 4) + near 4 nine (9 + x) (y + 4)) + along bit high * (near 4 nine (8 + x) (y + 3) + near 4 nine (8 + x) (y + 5)) + 2) / 4) 0
+      + cond (fillsAt one y x) ((across bit high * (near 4 nine (7 + x) (y + 4) + near 4 nine (9 + x) (y + 4)) + along bit high * (near 4 nine (8 + x) (y + 3) + near 4 nine (8 + x) (y + 5)) + 2) / 4) 0
 
-  sides : (keep y : ℕ) → keep ≡ maskOf (filledAt one y) → filledNear y keep ≡ inBytes (values y)
+  sides : (keep y : ℕ) → keep ≡ maskOf (fillsAt one y) → filledNear y keep ≡ inBytes (values y)
   sides keep y e =
-      filled-is (across bit high) (along bit high) keep (filledAt one y) (λ x. near 4 nine x (y + 4)) (λ x. near 4 nine (8 + x) (y + 3)) (λ x. near 4 nine (8 + x) (y + 5))
+      filled-is (across bit high) (along bit high) keep (fillsAt one y) (λ x. near 4 nine x (y + 4)) (λ x. near 4 nine (8 + x) (y + 3)) (λ x. near 4 nine (8 + x) (y + 5))
       (counts bit high) e (λ i. near-low i (y + 4)) (λ i. near-low (8 + i) (y + 3)) (λ i. near-low (8 + i) (y + 5))
 
-  row-filled : (y : ℕ) → y < 4 → rowAt rows y ≡ inBytes (values y)
-  unfolding rowAt filledRows rowsOf ownOf
-  row-filled zero h =
-      rw (
+  -- the row above row y, and the row below it
+  above-near : (y : ℕ) → y < 4 → cond (eqb y 0) (weightRow (of 1 0) 3) (getD (tab (weightRow own) 4) (y - 1) 0) ≡ inBytes (λ x. near 4 nine (8 + x) (y + 3))
+  unfolding tab
+  above-near zero h = row-near 1 0 3 3 (omega arith) refl
+  above-near (suc zero) h = row-near 1 1 0 4 (omega arith) refl
+  above-near (suc (suc zero)) h = row-near 1 1 1 5 (omega arith) refl
+  above-near (suc (suc (suc zero))) h = row-near 1 1 2 6 (omega arith) refl
+  above-near (suc (suc (suc (suc y)))) h = absurd (omega arith)
+
+  below-near : (y : ℕ) → y < 4 → cond (eqb y 3) (weightRow (of 1 2) 0) (getD (tab (weightRow own) 4) (y + 1) 0) ≡ inBytes (λ x. near 4 nine (8 + x) (y + 5))
+  unfolding tab
+  below-near zero h = row-near 1 1 1 5 (omega arith) refl
+  below-near (suc zero) h = row-near 1 1 2 6 (omega arith) refl
+  below-near (suc (suc zero)) h = row-near 1 1 3 7 (omega arith) refl
+  below-near (suc (suc (suc zero))) h = row-near 1 2 0 8 (omega arith) refl
+  below-near (suc (suc (suc (suc y)))) h = absurd (omega arith)
+
+  row-filled : (y : ℕ) → y < 4 → getD (rows .w) y 0 ≡ inBytes (values y)
+  unfolding filledRows rowsOf ownOf
+  row-filled y h =
+      getD-tab (filledAt (rowsOf (of 0 1)) (rowsOf own) (rowsOf (of 2 1)) (ownOf (of 1 0) own (of 1 2))) 4 y 0 h
+      ∙ rw (
+        getD-tab (weightRow (of 0 1)) 4 y 0 h,
+        getD-tab (weightRow own) 4 y 0 h,
+        getD-tab (weightRow (of 2 1)) 4 y 0 h,
         one-is,
         bit-cond (m % 2) (omega arith),
         bit-cond (m / 1048576 % 2) (omega arith),
-        left-near 0 (omega arith),
-        row-near 1 1 0 (omega arith),
-        row-near 2 1 0 (omega arith),
-        row-near 1 0 3 (omega arith),
-        row-near 1 1 1 (omega arith),
+        left-near y h,
+        row-near 1 1 y (y + 4) h (omega arith),
+        row-near 2 1 y (y + 4) h (omega arith),
+        above-near y h,
+        below-near y h,
       )
-      (sides (cond one 1 0 * odds) 0 (mask-0 one))
-  row-filled (suc zero) h =
-      rw (
-        one-is,
-        bit-cond (m % 2) (omega arith),
-        bit-cond (m / 1048576 % 2) (omega arith),
-        left-near 1 (omega arith),
-        row-near 1 1 1 (omega arith),
-        row-near 2 1 1 (omega arith),
-        row-near 1 1 0 (omega arith),
-        row-near 1 1 2 (omega arith),
-      )
-      (sides (cond one 1 0 * evens) 1 (mask-1 one))
-  row-filled (suc (suc zero)) h =
-      rw (
-        one-is,
-        bit-cond (m % 2) (omega arith),
-        bit-cond (m / 1048576 % 2) (omega arith),
-        left-near 2 (omega arith),
-        row-near 1 1 2 (omega arith),
-        row-near 2 1 2 (omega arith),
-        row-near 1 1 1 (omega arith),
-        row-near 1 1 3 (omega arith),
-      )
-      (sides (cond one 1 0 * odds) 2 (mask-2 one))
-  row-filled (suc (suc (suc zero))) h =
-      rw (
-        one-is,
-        bit-cond (m % 2) (omega arith),
-        bit-cond (m / 1048576 % 2) (omega arith),
-        left-near 3 (omega arith),
-        row-near 1 1 3 (omega arith),
-        row-near 2 1 3 (omega arith),
-        row-near 1 1 2 (omega arith),
-        row-near 1 2 0 (omega arith),
-      )
-      (sides (cond one 1 0 * evens) 3 (mask-3 one))
-  row-filled (suc (suc (suc (suc y)))) h = absurd (omega arith)
+      (sides (cond one 1 0 * cond (eqb (y % 2) 0) odds evens) y (mask-is one y h))
 
   -- in mode 1 a texel that is filled holds no weight of its own
   empty : (x y : ℕ) → x < 8 → y < 4 → one ≡ true → eqb ((x + y) % 2) 0 ≡ false → near 4 nine (x + 8) (y + 4) ≡ 0
@@ -217,7 +199,7 @@ module _ (of : ℕ → ℕ → List ℕ) where
       rw (a, b, c, d, e, fill-is)
       (by-rule nine (x + 8) (y + 4) one (eqb ((x + y) % 2) 0) bit high (empty x y hx hy))
 
-  weight-is : (x y : ℕ) → x < 8 → y < 4 → rowAt rows y / 256 ^ x % 16 ≡ filled 4 (ruleAt (nine 1 1) x y) nine (x + 8) (y + 4)
+  weight-is : (x y : ℕ) → x < 8 → y < 4 → getD (rows .w) y 0 / 2 ^ (8 * x) % 16 ≡ filled 4 (ruleAt (nine 1 1) x y) nine (x + 8) (y + 4)
   weight-is x y hx hy =
       rw (row-filled y hy)
       (byte-at (values y) x (λ i hi. rw (value-is i y hi hy) (filled-le true of (ruleAt (nine 1 1) i y) (i + 8) (y + 4))) hx ∙ value-is x y hx hy)
@@ -227,6 +209,11 @@ module _ (of : ℕ → ℕ → List ℕ) where
     where
       none : (i : ℕ) → bytes ≡ cond (isSet 0 i) clear bytes
       none i = rw (zero-div (2 ^ i))
+
+-- a texel of a row, from its two sums and its weight
+pub row-texel : (la ca ra lb cb rb w x : ℕ) {t u v : ℕ} → t ≡ texelLanes 4 u v (w / 2 ^ (8 * x) % 16) bytes → u ≡ shared 4 x la ca ra → v ≡ shared 4 x lb cb rb → t ≡ inRow2 la ca ra lb cb rb w x
+unfolding inRow2
+row-texel la ca ra lb cb rb w x et eu ev = rw (← eu, ← ev) et
 
 -- a texel of the window, whatever the nine addresses are
 pub texel-is : (d : List ℕ) (z : ℕ → ℕ → ℕ) (x y : ℕ) → x < 8 → y < 4

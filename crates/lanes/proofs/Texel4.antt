@@ -17,7 +17,7 @@ use Rattle.word.specs.declared.Fill.the-variants.{Nothing}
 use Rattle.word.specs.Word.{modulation, mode, code, standardWeight, punchThroughWeight, weight4, punch4}
 use Rattle.lanes.specs.Column.{wordAt, columnOf}
 use Rattle.lanes.specs.Four.{weights, keeps, codesOf, inRow4, inBlock4}
-use Rattle.lanes.specs.Lanes.{bytes, clear, fitted, mixedLanes, texelLanes, Mask}
+use Rattle.lanes.specs.Lanes.{bytes, clear, fitted, mixedLanes, shared, texelLanes, Mask}
 use Rattle.lanes.proofs.Reading.{byte-of}
 use Rattle.lanes.proofs.Window.{window-texel}
 
@@ -100,6 +100,12 @@ unfolding codesOf
 codes-are d z e0 e1 e2 e3 e4 =
     let first : 8 * z + 0 ≡ 8 * z = omega arith in
     rw (byte-of d z 0, byte-of d z 1, byte-of d z 2, byte-of d z 3, byte-of d z 4, first, e0, e1, e2, e3, e4)
+
+-- a texel of a row, from its two sums and its place in the tables
+pub row-texel : (la ca ra lb cb rb m s x : ℕ) {t u v k : ℕ} → t ≡ texelLanes 2 u v (getD weights k 0) (getD keeps k 0) → u ≡ shared 2 x la ca ra → v ≡ shared 2 x lb cb rb → k ≡ s + code m x
+    → t ≡ inRow4 la ca ra lb cb rb m s x
+unfolding inRow4
+row-texel la ca ra lb cb rb m s x et eu ev ek = rw (← eu, ← ev, ← ek) et
 
 -- every place of the tables
 pub weights-le : (k : ℕ) → k < 8 → getD weights k 0 ≤ 15

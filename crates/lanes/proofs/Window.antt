@@ -1,9 +1,11 @@
 -- A window of three columns gives the sums of the nine words, at either depth. Assumes nothing.
-use mathlib.Core.Path.{_≡_, refl, sym, ap}
+use mathlib.Core.Path.{_≡_, sym, ap}
 use mathlib.Core.Bool.{Bool, true, false, cond}
 use mathlib.Core.List.{List}
-use Prim.Native.Nat.{ℕ, zero, suc, _+_, _*_, _-_, _<_}
+use Prim.Native.Nat.{ℕ, _+_, _*_, _-_, _<_}
 use native.Mathlib.Omega.{arith}
+use lib.ListN.{getD}
+use Rattle.facts.proofs.Tab.{getD-tab}
 use Rattle.grid.specs.Grid.{half, blockWidth}
 use Rattle.texel.specs.Inner.{sumsTo, Low}
 use Rattle.texel.specs.Texel.{Words, nineSum, packed, filled, ruleAt, punched, mixed, texelIn}
@@ -12,27 +14,19 @@ use Rattle.texel.proofs.Range.{words, filled-le}
 use Rattle.texel.proofs.Sums.{sums-low}
 use Rattle.word.proofs.Bounds.{color-a, color-b}
 use Rattle.lanes.specs.declared.Column.{Column}
-use Rattle.lanes.specs.Column.{wordAt, lanesA, lanesB, columnOf, rowA, rowB}
+use Rattle.lanes.specs.Column.{wordAt, lanesA, lanesB, columnOf}
 use Rattle.lanes.specs.Lanes.{bytes, clear, colorLanes, shared, texelLanes}
 use Rattle.lanes.proofs.Lane.{sumLanes, texel-lanes}
 use Rattle.lanes.proofs.Linear.{wordLanes, sums-are}
 
 -- row y of a column is its three words by their shares there
-pub row-a : (d : List ℕ) (p q s y : ℕ) → y < 4 → rowA (columnOf d p q s) y ≡ shared 2 y (lanesA d p) (lanesA d q) (lanesA d s)
-unfolding columnOf rowA
-row-a d p q s zero h = refl
-row-a d p q s (suc zero) h = refl
-row-a d p q s (suc (suc zero)) h = refl
-row-a d p q s (suc (suc (suc zero))) h = refl
-row-a d p q s (suc (suc (suc (suc y)))) h = absurd (omega arith)
+pub row-a : (d : List ℕ) (p q s y : ℕ) → y < 4 → getD (columnOf d p q s .a) y 0 ≡ shared 2 y (lanesA d p) (lanesA d q) (lanesA d s)
+unfolding columnOf
+row-a d p q s y h = getD-tab (λ y. shared 2 y (lanesA d p) (lanesA d q) (lanesA d s)) 4 y 0 h
 
-pub row-b : (d : List ℕ) (p q s y : ℕ) → y < 4 → rowB (columnOf d p q s) y ≡ shared 2 y (lanesB d p) (lanesB d q) (lanesB d s)
-unfolding columnOf rowB
-row-b d p q s zero h = refl
-row-b d p q s (suc zero) h = refl
-row-b d p q s (suc (suc zero)) h = refl
-row-b d p q s (suc (suc (suc zero))) h = refl
-row-b d p q s (suc (suc (suc (suc y)))) h = absurd (omega arith)
+pub row-b : (d : List ℕ) (p q s y : ℕ) → y < 4 → getD (columnOf d p q s .b) y 0 ≡ shared 2 y (lanesB d p) (lanesB d q) (lanesB d s)
+unfolding columnOf
+row-b d p q s y h = getD-tab (λ y. shared 2 y (lanesB d p) (lanesB d q) (lanesB d s)) 4 y 0 h
 
 -- nine words by their addresses
 module _ (two : Bool) (d : List ℕ) (z : ℕ → ℕ → ℕ) where
@@ -51,7 +45,7 @@ module _ (two : Bool) (d : List ℕ) (z : ℕ → ℕ → ℕ) where
   columnAt i = columnOf d (z i 0) (z i 1) (z i 2)
 
   module _ (x y : ℕ) (hx : x < blockWidth two) (hy : y < 4) where
-    sum-a : shared (half two) x (rowA (columnAt 0) y) (rowA (columnAt 1) y) (rowA (columnAt 2) y) ≡ sumLanes (sumsTo (half two) nineAt false x y 9)
+    sum-a : shared (half two) x (getD (columnAt 0 .a) y 0) (getD (columnAt 1 .a) y 0) (getD (columnAt 2 .a) y 0) ≡ sumLanes (sumsTo (half two) nineAt false x y 9)
     sum-a =
         rw (
           row-a d (z 0 0) (z 0 1) (z 0 2) y hy,
@@ -69,7 +63,7 @@ module _ (two : Bool) (d : List ℕ) (z : ℕ → ℕ → ℕ) where
         )
         (sums-are (half two) x y nineAt false)
 
-    sum-b : shared (half two) x (rowB (columnAt 0) y) (rowB (columnAt 1) y) (rowB (columnAt 2) y) ≡ sumLanes (sumsTo (half two) nineAt true x y 9)
+    sum-b : shared (half two) x (getD (columnAt 0 .b) y 0) (getD (columnAt 1 .b) y 0) (getD (columnAt 2 .b) y 0) ≡ sumLanes (sumsTo (half two) nineAt true x y 9)
     sum-b =
         rw (
           row-b d (z 0 0) (z 0 1) (z 0 2) y hy,
@@ -93,8 +87,8 @@ module _ (two : Bool) (d : List ℕ) (z : ℕ → ℕ → ℕ) where
     -- a texel of the window, where the weight and what is kept are the definition's
     pub window-texel : (w keep : ℕ) → w ≡ filled (half two) (ruleAt (nineAt 1 1) x y) nineAt (x + blockWidth two) (y + 4)
         → keep ≡ cond (punched (half two) (nineAt 1 1) x y) clear bytes
-        → texelLanes (half two) (shared (half two) x (rowA (columnAt 0) y) (rowA (columnAt 1) y) (rowA (columnAt 2) y))
-        (shared (half two) x (rowB (columnAt 0) y) (rowB (columnAt 1) y) (rowB (columnAt 2) y)) w keep
+        → texelLanes (half two) (shared (half two) x (getD (columnAt 0 .a) y 0) (getD (columnAt 1 .a) y 0) (getD (columnAt 2 .a) y 0))
+        (shared (half two) x (getD (columnAt 0 .b) y 0) (getD (columnAt 1 .b) y 0) (getD (columnAt 2 .b) y 0)) w keep
         ≡ packed (texelIn (half two) nineAt x y)
     unfolding texelIn mixed sumsTo nineSum
     window-texel w keep ew ek =

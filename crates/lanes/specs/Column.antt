@@ -1,8 +1,9 @@
 -- A column of three words, summed downwards. Assumes nothing: these are definitions.
 -- `d` is the picture's data, and a word is told by its address, which counts words.
-use mathlib.Core.List.{List, [], _∷_}
-use Prim.Native.Nat.{ℕ, _*_, _≤_}
+use mathlib.Core.List.{List}
+use Prim.Native.Nat.{ℕ, _*_, _≤_, _<_}
 use lib.ListN.{getD, drop}
+use Rattle.facts.specs.Tab.{tab}
 use Rattle.word.specs.Word.{colorA, colorB, blueA, blueB, colorOf}
 use Rattle.lanes.specs.declared.Column.{Column}
 use Rattle.lanes.specs.Lanes.{colorLanes, shared}
@@ -23,23 +24,9 @@ lanesB d z = colorLanes (colorOf (colorB (wordAt d z)) (blueB (colorB (wordAt d 
 unfoldable pub columnOf : List ℕ → ℕ → ℕ → ℕ → Column
 columnOf d p q s =
     record {
-      a0 = shared 2 0 (lanesA d p) (lanesA d q) (lanesA d s);
-      a1 = shared 2 1 (lanesA d p) (lanesA d q) (lanesA d s);
-      a2 = shared 2 2 (lanesA d p) (lanesA d q) (lanesA d s);
-      a3 = shared 2 3 (lanesA d p) (lanesA d q) (lanesA d s);
-      b0 = shared 2 0 (lanesB d p) (lanesB d q) (lanesB d s);
-      b1 = shared 2 1 (lanesB d p) (lanesB d q) (lanesB d s);
-      b2 = shared 2 2 (lanesB d p) (lanesB d q) (lanesB d s);
-      b3 = shared 2 3 (lanesB d p) (lanesB d q) (lanesB d s);
+      a = tab (λ y. shared 2 y (lanesA d p) (lanesA d q) (lanesA d s)) 4;
+      b = tab (λ y. shared 2 y (lanesB d p) (lanesB d q) (lanesB d s)) 4;
     }
-
--- Row y of a column, of colour A.
-unfoldable pub rowA : Column → ℕ → ℕ
-rowA k y = getD (k .a0 ∷ k .a1 ∷ k .a2 ∷ k .a3 ∷ []) y 0
-
--- And of colour B.
-unfoldable pub rowB : Column → ℕ → ℕ
-rowB k y = getD (k .b0 ∷ k .b1 ∷ k .b2 ∷ k .b3 ∷ []) y 0
 
 -- Eight times such a number fits a machine word with room to bring it to 8 bits.
 abbrev pub most : ℕ
@@ -47,14 +34,8 @@ most = 36028797018963968
 
 -- A column whose eight numbers are so small.
 pub record Fits (k : Column) : Type 0 where
-  pub a0 : k .a0 ≤ most
-  pub a1 : k .a1 ≤ most
-  pub a2 : k .a2 ≤ most
-  pub a3 : k .a3 ≤ most
-  pub b0 : k .b0 ≤ most
-  pub b1 : k .b1 ≤ most
-  pub b2 : k .b2 ≤ most
-  pub b3 : k .b3 ≤ most
+  pub a : (y : ℕ) → y < 4 → getD (k .a) y 0 ≤ most
+  pub b : (y : ℕ) → y < 4 → getD (k .b) y 0 ≤ most
 
 -- Six numbers of a row that are so small: of colour A and of B, from the previous, the own and the next column.
 pub record RowFits (l c r u v w : ℕ) : Type 0 where

@@ -1,17 +1,16 @@
 -- A block at 2bpp from the window: rows of weights as the bytes of one number. Assumes nothing: these are definitions.
 use mathlib.Core.Bool.{Bool, true, cond, _&&_, _||_}
 use mathlib.Core.List.{List, [], _∷_}
-use Prim.Native.Nat.{ℕ, _+_, _-_, _*_, _/_, _%_, _^_, _≤_}
+use Prim.Native.Nat.{ℕ, _+_, _-_, _*_, _/_, _%_, _^_, _≤_, _<_}
 use lib.Bits.{bitAnd}
 use lib.Dec.{eqb}
 use lib.ListN.{getD}
 use Rattle.facts.specs.Bits.{isSet}
+use Rattle.facts.specs.Tab.{tab}
 use Rattle.word.specs.Word.{modulation, code, standardWeight, holdsCode, adjusted, wordOf}
 use Rattle.lanes.specs.declared.Column.{Column}
-use Rattle.lanes.specs.declared.Eight.{Eight}
 use Rattle.lanes.specs.declared.Own.{Own}
 use Rattle.lanes.specs.declared.Rows.{Rows}
-use Rattle.lanes.specs.Column.{rowA, rowB}
 use Rattle.lanes.specs.Lanes.{bytes, shared, texelLanes}
 
 -- Numbers as the bytes of one, from the low end.
@@ -29,7 +28,7 @@ weightRow w y = inBytes (λ x. getD (wordOf true w .weight) (8 * y + x) 0)
 
 -- The four rows.
 unfoldable pub rowsOf : List ℕ → Rows
-rowsOf w = record { w0 = weightRow w 0; w1 = weightRow w 1; w2 = weightRow w 2; w3 = weightRow w 3 }
+rowsOf w = record { w = tab (weightRow w) 4 }
 
 -- Weight x of row y by byte b of the modulation alone, in mode 1 if `one`; `bit` is the modulation's bit 0.
 abbrev pub byteWeight : (one : Bool) (y : ℕ) (bit : Bool) (b x : ℕ) → ℕ
@@ -80,45 +79,23 @@ odds = 0x0f000f000f000f00
 abbrev pub evens : ℕ
 evens = 0x000f000f000f000f
 
--- The four rows of a block's weights, filled; l, c and r are the stored rows of the three blocks.
-unfoldable pub filledRows : Rows → Rows → Rows → Own → Rows
-filledRows l c r k =
-    record {
-      w0 = filledRow (k .hx) (k .vx) (k .one * odds) (l .w0) (c .w0) (r .w0) (k .up) (c .w1);
-      w1 = filledRow (k .hx) (k .vx) (k .one * evens) (l .w1) (c .w1) (r .w1) (c .w0) (c .w2);
-      w2 = filledRow (k .hx) (k .vx) (k .one * odds) (l .w2) (c .w2) (r .w2) (c .w1) (c .w3);
-      w3 = filledRow (k .hx) (k .vx) (k .one * evens) (l .w3) (c .w3) (r .w3) (c .w2) (k .dn);
-    }
+-- Row y of a block's weights, filled; l, c and r are the stored rows of the three blocks.
+abbrev pub filledAt : Rows → Rows → Rows → Own → ℕ → ℕ
+filledAt l c r k y =
+    filledRow (k .hx) (k .vx) (k .one * cond (eqb (y % 2) 0) odds evens) (getD (l .w) y 0) (getD (c .w) y 0) (getD (r .w) y 0)
+    (cond (eqb y 0) (k .up) (getD (c .w) (y - 1) 0)) (cond (eqb y 3) (k .dn) (getD (c .w) (y + 1) 0))
 
--- Row y of four.
-unfoldable pub rowAt : Rows → ℕ → ℕ
-rowAt k y = getD (k .w0 ∷ k .w1 ∷ k .w2 ∷ k .w3 ∷ []) y 0
+-- The four rows of them.
+unfoldable pub filledRows : Rows → Rows → Rows → Own → Rows
+filledRows l c r k = record { w = tab (filledAt l c r k) 4 }
 
 -- Texel x of a row with the weights `ws`.
 unfoldable pub inRow2 : (l c r u v w ws x : ℕ) → ℕ
-inRow2 l c r u v w ws x = texelLanes 4 (shared 4 x l c r) (shared 4 x u v w) (ws / 256 ^ x % 16) bytes
+inRow2 l c r u v w ws x = texelLanes 4 (shared 4 x l c r) (shared 4 x u v w) (ws / 2 ^ (8 * x) % 16) bytes
 
 -- Texel (x, y) of the block between the columns l and r.
 abbrev pub inBlock2 : Column → Column → Column → Rows → ℕ → ℕ → ℕ
-inBlock2 l c r k x y = inRow2 (rowA l y) (rowA c y) (rowA r y) (rowB l y) (rowB c y) (rowB r y) (rowAt k y) x
-
--- The eight texels of such a row.
-unfoldable pub rowOf2 : (l c r u v w ws : ℕ) → Eight
-rowOf2 l c r u v w ws =
-    record {
-      t0 = inRow2 l c r u v w ws 0;
-      t1 = inRow2 l c r u v w ws 1;
-      t2 = inRow2 l c r u v w ws 2;
-      t3 = inRow2 l c r u v w ws 3;
-      t4 = inRow2 l c r u v w ws 4;
-      t5 = inRow2 l c r u v w ws 5;
-      t6 = inRow2 l c r u v w ws 6;
-      t7 = inRow2 l c r u v w ws 7;
-    }
-
--- Eight words, by place.
-unfoldable pub eightAt : Eight → ℕ → ℕ
-eightAt t x = getD (t .t0 ∷ t .t1 ∷ t .t2 ∷ t .t3 ∷ t .t4 ∷ t .t5 ∷ t .t6 ∷ t .t7 ∷ []) x 0
+inBlock2 l c r k x y = inRow2 (getD (l .a) y 0) (getD (c .a) y 0) (getD (r .a) y 0) (getD (l .b) y 0) (getD (c .b) y 0) (getD (r .b) y 0) (getD (k .w) y 0) x
 
 -- A row whose every byte is at most 8, as far as the sums need to know it.
 pub record LowRow (c : ℕ) : Type 0 where
@@ -128,10 +105,7 @@ pub record LowRow (c : ℕ) : Type 0 where
 
 -- Four such rows.
 pub record LowRows (k : Rows) : Type 0 where
-  pub w0 : LowRow (k .w0)
-  pub w1 : LowRow (k .w1)
-  pub w2 : LowRow (k .w2)
-  pub w3 : LowRow (k .w3)
+  pub low : (y : ℕ) → y < 4 → LowRow (getD (k .w) y 0)
 
 -- What a block has besides them, as small.
 pub record LowOwn (k : Own) : Type 0 where

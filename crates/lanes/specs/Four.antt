@@ -5,8 +5,6 @@ use lib.ListN.{getD}
 use Rattle.word.specs.Word.{modulation, code}
 use Rattle.lanes.specs.declared.Codes.{Codes}
 use Rattle.lanes.specs.declared.Column.{Column}
-use Rattle.lanes.specs.declared.Four.{Four}
-use Rattle.lanes.specs.Column.{rowA, rowB}
 use Rattle.lanes.specs.Lanes.{bytes, clear, texelLanes, shared}
 
 -- What codes 0..3 mean in mode 0, and then in mode 1.
@@ -29,18 +27,4 @@ inRow4 l c r u v w m s x =
 -- Texel (x, y) of the block between the columns l and r.
 abbrev pub inBlock4 : Column → Column → Column → Codes → ℕ → ℕ → ℕ
 inBlock4 l c r k x y =
-    inRow4 (rowA l y) (rowA c y) (rowA r y) (rowB l y) (rowB c y) (rowB r y) (k .m / 2 ^ (8 * y)) (k .s) x
-
--- Four words, by place.
-unfoldable pub fourAt : Four → ℕ → ℕ
-fourAt t x = getD (t .t0 ∷ t .t1 ∷ t .t2 ∷ t .t3 ∷ []) x 0
-
--- The four texels of such a row.
-unfoldable pub rowOf4 : (l c r u v w m s : ℕ) → Four
-rowOf4 l c r u v w m s =
-    record {
-      t0 = inRow4 l c r u v w m s 0;
-      t1 = inRow4 l c r u v w m s 1;
-      t2 = inRow4 l c r u v w m s 2;
-      t3 = inRow4 l c r u v w m s 3;
-    }
+    inRow4 (getD (l .a) y 0) (getD (c .a) y 0) (getD (r .a) y 0) (getD (l .b) y 0) (getD (c .b) y 0) (getD (r .b) y 0) (k .m / 2 ^ (8 * y)) (k .s) x

@@ -14,6 +14,10 @@ lanes b r g a = b + 65536 * (r + 65536 * (g + 65536 * a))
 abbrev pub colorLanes : PVRTCTexelColor → ℕ
 colorLanes c = lanes (c .b) (c .r) (c .g) (2 * c .a)
 
+-- Three lanes of four bits, each followed by its top bit.
+abbrev pub widened : ℕ → ℕ
+widened t = 2 * t + bitAnd (t / 8) 0x0000000100010001
+
 -- The low byte of each lane.
 abbrev pub bytes : ℕ
 bytes = 0x00ff00ff00ff00ff

@@ -1,17 +1,14 @@
 -- A row of blocks: where its words stand, and where its texels go. Assumes nothing: these are definitions.
 use mathlib.Core.Path.{_≡_}
-use mathlib.Core.Bool.{Bool, cond}
+use mathlib.Core.Bool.{Bool}
 use mathlib.Core.List.{List}
 use Prim.Native.Nat.{ℕ, _+_, _-_, _*_, _≤_, _<_, min}
-use lib.Dec.{ltb}
-use Rattle.grid.specs.Grid.{blockWidth, blocks, log2, address, blockAddress, beside}
+use Rattle.grid.specs.Grid.{blockWidth, blocks, log2, address, beside}
 use Rattle.paint.specs.Paint.{painted}
 use Rattle.texel.specs.Inner.{Grid}
 use Rattle.texel.specs.Texel.{texelWord}
-use Rattle.lanes.specs.declared.Column.{Column}
 use Rattle.lanes.specs.declared.Spot.{Spot}
 use Rattle.lanes.specs.declared.Strip.{Strip}
-use Rattle.lanes.specs.Column.{columnOf}
 
 -- Row `by` of a grid of gx by gy blocks, with what the rows above, own and below add to an address.
 unfoldable pub stripOf : ℕ → ℕ → ℕ → Strip
@@ -26,19 +23,11 @@ stripOf gx gy y =
       e = address (log2 (min gx gy)) 0 (beside gy y 2);
     }
 
--- Such a row of a grid whose words stand in a run of `len` bytes.
-pub record InStrip (s : Strip) (len : ℕ) : Type 0 where
-  pub is : s ≡ stripOf (s .nx) (s .ny) (s .by)
-  pub grid : Grid (s .nx) (s .ny) len
-  pub row : s .by < s .ny
-
--- The address of the word in column x of the row above, own or below (0, 1, 2).
-abbrev pub placeIn : Strip → ℕ → ℕ → ℕ
-placeIn s x j = blockAddress (s .nx) (s .ny) x (beside (s .ny) (s .by) j)
-
--- The three words of column x, summed downwards.
-abbrev pub columnIn : Strip → List ℕ → ℕ → Column
-columnIn s d x = columnOf d (placeIn s x 0) (placeIn s x 1) (placeIn s x 2)
+-- The words above, own and below of a column that adds q to an address stand in a run of `len` bytes.
+pub record InColumn (s : Strip) (q len : ℕ) : Type 0 where
+  pub above : 8 * (q + s .u) + 8 ≤ len
+  pub own : 8 * (q + s .o) + 8 ≤ len
+  pub below : 8 * (q + s .e) + 8 ≤ len
 
 -- Where a block's texels go, cut to the picture: there is a row at least, and the rows lie in the lent words.
 pub record SpotFits (p : Spot) (wide room : ℕ) : Type 0 where
@@ -59,11 +48,6 @@ pub record SpotAsked (w h bx by bw : ℕ) : Type 0 where
   pub starts-down : by * 4 < h
   pub small-w : w ≤ 65536
   pub small-h : h ≤ 65536
-
--- Row j of a block laid there, if the picture has it.
-unfoldable pub withRow : Spot → ℕ → (ℕ → ℕ) → List ℕ → List ℕ
-withRow p j f old =
-    cond (ltb j (p .rows)) (painted (p .at + j * p .width) (p .columns) (p .columns) 1 (λ x y. f x) old) old
 
 -- A picture of w by h texels, whose words stand in `len` bytes and which goes into `room` words, and a row of its blocks.
 pub record Ready (two : Bool) (w h gx gy by len room : ℕ) : Type 0 where

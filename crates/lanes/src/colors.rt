@@ -1,11 +1,13 @@
 // Colours as lanes, and the three words of a column, summed downwards.
 use crate::Column;
+ghost use mathlib.Core.Bool.{cond};
 ghost use mathlib.Core.Path.{_≡_};
 ghost use Prim.Native.Nat.{_+_, _*_, _<_, _≤_};
+ghost use lib.Dec.{eqb};
 ghost use lib.ListN.{length, getD};
 ghost use Rattle.word.specs.Word.{colorOf, blueA, blueB};
-ghost use Rattle.lanes.specs.Lanes.{bytes, colorLanes, fitted, mixedLanes, Mask};
-ghost use Rattle.lanes.specs.Column.{lanesA, lanesB, columnOf, rowA, rowB, most, Fits};
+ghost use Rattle.lanes.specs.Lanes.{bytes, colorLanes, widened, fitted, mixedLanes, shared, Mask};
+ghost use Rattle.lanes.specs.Column.{lanesA, lanesB, columnOf, most, Fits};
 
 const BYTES: u64 = 0x00ff00ff00ff00ff;
 
@@ -38,6 +40,22 @@ pub fn mix(a: u64, b: u64, w: u64, keep: u64) -> u32
     (t % 4294967296 + t / 16777216) as u32
 }
 
+// By a bit, the one or the other, with no branch.
+pub fn pick(o: u64, x: u64, y: u64) -> u64
+    requires { ⌜ o < 2 ⌝ }
+    ensures { λ r. ⌜ r ≡ cond (eqb o 1) x y ⌝ }
+{
+    o * x + (1 - o) * y
+}
+
+// Lanes of four bits, each followed by its top bit.
+fn widen(t: u64) -> u64
+    requires { ⌜ t < 68719476736 ⌝ }
+    ensures { λ r. ⌜ (r ≡ widened t) × (r < 274877906944) ⌝ }
+{
+    2 * t + (t / 8 & 0x0000000100010001)
+}
+
 fn lane_a(c: u64) -> u64
     requires { ⌜ c < 65536 ⌝ }
     ensures { λ r. ⌜ r ≡ colorLanes (colorOf c (blueA c)) ⌝ }
@@ -47,10 +65,9 @@ fn lane_a(c: u64) -> u64
         + 4294967296 * (c / 32 % 32)
         + 8444249301319680;
     let y = (c / 2 % 8 * 4 + c / 4 % 4)
-        + 65536 * (c / 256 % 16 * 2 + c / 2048 % 2)
-        + 4294967296 * (c / 16 % 16 * 2 + c / 128 % 2)
+        + widen(65536 * (c / 256 % 16) + 4294967296 * (c / 16 % 16))
         + 1125899906842624 * (c / 4096 % 8);
-    if c / 32768 % 2 == 1 { x } else { y }
+    pick(c / 32768 % 2, x, y)
 }
 
 fn lane_b(c: u64) -> u64
@@ -58,11 +75,9 @@ fn lane_b(c: u64) -> u64
     ensures { λ r. ⌜ r ≡ colorLanes (colorOf c (blueB c)) ⌝ }
 {
     let x = c % 32 + 65536 * (c / 1024 % 32) + 4294967296 * (c / 32 % 32) + 8444249301319680;
-    let y = (c % 16 * 2 + c / 8 % 2)
-        + 65536 * (c / 256 % 16 * 2 + c / 2048 % 2)
-        + 4294967296 * (c / 16 % 16 * 2 + c / 128 % 2)
+    let y = widen(c % 16 + 65536 * (c / 256 % 16) + 4294967296 * (c / 16 % 16))
         + 1125899906842624 * (c / 4096 % 8);
-    if c / 32768 % 2 == 1 { x } else { y }
+    pick(c / 32768 % 2, x, y)
 }
 
 pub fn byte(d: &[u8], at: usize) -> u64
@@ -107,40 +122,16 @@ pub fn summed(d: &[u8], p: usize, q: usize, s: usize) -> Column
     let bq = word_b(d, q);
     let b_s = word_b(d, s);
     Column {
-        a0: 2 * ap + 2 * aq,
-        a1: ap + 3 * aq,
-        a2: 4 * aq,
-        a3: 3 * aq + a_s,
-        b0: 2 * bp + 2 * bq,
-        b1: bp + 3 * bq,
-        b2: 4 * bq,
-        b3: 3 * bq + b_s,
+        a: [2 * ap + 2 * aq, ap + 3 * aq, 4 * aq, 3 * aq + a_s],
+        b: [2 * bp + 2 * bq, bp + 3 * bq, 4 * bq, 3 * bq + b_s],
     }
 }
 
-// Row j of a column: of colour A, and of B.
-pub fn row_a(k: Column, j: usize) -> u64
-    requires { ⌜ Fits k × (j < 4) ⌝ }
-    ensures { λ r. ⌜ (r ≡ rowA k j) × (r ≤ most) ⌝ }
+// From the sum of shares at place i of 2h to the one at the next place.
+pub fn step(h: usize, i: usize, x: u64, l: u64, c: u64, r: u64) -> u64
+    requires { ⌜ (h ≤ 4) × (i < 2 * h) × (x ≡ shared h i l c r) ⌝ }
+    requires { ⌜ (l ≤ most) × (c ≤ most) × (r ≤ most) ⌝ }
+    ensures { λ z. ⌜ z ≡ shared h (i + 1) l c r ⌝ }
 {
-    if j == 0 {
-        return k.a0;
-    }
-    if j == 1 {
-        return k.a1;
-    }
-    if j == 2 { k.a2 } else { k.a3 }
-}
-
-pub fn row_b(k: Column, j: usize) -> u64
-    requires { ⌜ Fits k × (j < 4) ⌝ }
-    ensures { λ r. ⌜ (r ≡ rowB k j) × (r ≤ most) ⌝ }
-{
-    if j == 0 {
-        return k.b0;
-    }
-    if j == 1 {
-        return k.b1;
-    }
-    if j == 2 { k.b2 } else { k.b3 }
+    if i < h { x + c - l } else { x + r - c }
 }

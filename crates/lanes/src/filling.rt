@@ -3,7 +3,7 @@ use crate::Own;
 use crate::Rows;
 use crate::Strip;
 use crate::colors::byte;
-use crate::places::part_across;
+use crate::colors::pick;
 ghost use mathlib.Core.Bool.{false, cond};
 ghost use mathlib.Core.Path.{_≡_};
 ghost use Prim.Native.Nat.{_+_, _*_, _/_, _<_, _≤_};
@@ -11,7 +11,7 @@ ghost use lib.Dec.{eqb};
 ghost use lib.ListN.{length};
 ghost use Rattle.lanes.specs.Column.{wordAt};
 ghost use Rattle.lanes.specs.Eight.{bitsOf, codesOf, byteRow, weightRow, rowsOf, ownOf, filledRow, filledRows, LowRow, LowRows, LowOwn};
-ghost use Rattle.lanes.specs.Strip.{InStrip, placeIn};
+ghost use Rattle.lanes.specs.Strip.{InColumn};
 
 // A byte's bits as weights of 0 and 8.
 fn bits_row(b: u64) -> u64
@@ -32,10 +32,10 @@ fn codes_row(b: u64) -> u64
 
 // By the mode, the one or the other.
 fn spread_row(b: u64, one: u64) -> u64
-    requires { ⌜ b < 256 ⌝ }
+    requires { ⌜ (b < 256) × (one < 2) ⌝ }
     ensures { λ r. ⌜ (r ≡ cond (eqb one 1) (codesOf b) (bitsOf b)) × (r ≤ 0x0808080808080808) ⌝ }
 {
-    if one == 1 { codes_row(b) } else { bits_row(b) }
+    pick(one, codes_row(b), bits_row(b))
 }
 
 // A weight that gives up a bit of its code. 0 and 8 stay as they are.
@@ -48,7 +48,7 @@ fn adjust(x: u64, bit: u64) -> u64
 
 // Row 0 of a word: its first weight gives up a bit.
 fn first_row(b: u64, one: u64) -> u64
-    requires { ⌜ b < 256 ⌝ }
+    requires { ⌜ (b < 256) × (one < 2) ⌝ }
     ensures { λ r. ⌜ r ≡ byteRow (eqb one 1) 0 false b ⌝ }
 {
     let v = spread_row(b, one);
@@ -57,19 +57,15 @@ fn first_row(b: u64, one: u64) -> u64
 
 // Rows 1 and 3.
 fn odd_row(b: u64, one: u64) -> u64
-    requires { ⌜ b < 256 ⌝ }
+    requires { ⌜ (b < 256) × (one < 2) ⌝ }
     ensures { λ r. ⌜ r ≡ byteRow (eqb one 1) 1 false b ⌝ }
 {
-    if one == 1 {
-        codes_row(b) * 256
-    } else {
-        bits_row(b)
-    }
+    pick(one, codes_row(b) * 256, bits_row(b))
 }
 
 // Row 2: its fifth weight gives up a bit where the modulation's bit 0 is set.
 fn third_row(b: u64, one: u64, bit: u64) -> u64
-    requires { ⌜ b < 256 ⌝ }
+    requires { ⌜ (b < 256) × (one < 2) ⌝ }
     ensures { λ r. ⌜ r ≡ byteRow (eqb one 1) 2 (eqb bit 1) b ⌝ }
 {
     let v = spread_row(b, one);
@@ -86,10 +82,12 @@ fn read_rows(d: &[u8], z: usize) -> Rows
     let one = byte(d, at + 4) % 2;
     let b0 = byte(d, at);
     Rows {
-        w0: first_row(b0, one),
-        w1: odd_row(byte(d, at + 1), one),
-        w2: third_row(byte(d, at + 2), one, b0 % 2),
-        w3: odd_row(byte(d, at + 3), one),
+        w: [
+            first_row(b0, one),
+            odd_row(byte(d, at + 1), one),
+            third_row(byte(d, at + 2), one, b0 % 2),
+            odd_row(byte(d, at + 3), one),
+        ],
     }
 }
 
@@ -149,26 +147,27 @@ pub fn fill_rows(l: Rows, c: Rows, r: Rows, k: Own) -> Rows
     let odds = k.one * ODDS;
     let evens = k.one * EVENS;
     Rows {
-        w0: fill_row(k.hx, k.vx, odds, l.w0, c.w0, r.w0, k.up, c.w1),
-        w1: fill_row(k.hx, k.vx, evens, l.w1, c.w1, r.w1, c.w0, c.w2),
-        w2: fill_row(k.hx, k.vx, odds, l.w2, c.w2, r.w2, c.w1, c.w3),
-        w3: fill_row(k.hx, k.vx, evens, l.w3, c.w3, r.w3, c.w2, k.dn),
+        w: [
+            fill_row(k.hx, k.vx, odds, l.w[0], c.w[0], r.w[0], k.up, c.w[1]),
+            fill_row(k.hx, k.vx, evens, l.w[1], c.w[1], r.w[1], c.w[0], c.w[2]),
+            fill_row(k.hx, k.vx, odds, l.w[2], c.w[2], r.w[2], c.w[1], c.w[3]),
+            fill_row(k.hx, k.vx, evens, l.w[3], c.w[3], r.w[3], c.w[2], k.dn),
+        ],
     }
 }
 
-// The rows of the word in column x.
-pub fn rows_at(data: &[u8], s: Strip, x: usize) -> Rows
-    requires { ⌜ InStrip s (length (now «data»)) × (x < s .nx) ⌝ }
-    ensures { λ r. ⌜ (r ≡ rowsOf (wordAt (now («data» .entry)) (placeIn s x 1))) × LowRows r ⌝ }
+// The rows of the block in the column that adds q to an address.
+pub fn rows_at(data: &[u8], s: Strip, q: usize) -> Rows
+    requires { ⌜ InColumn s q (length (now «data»)) ⌝ }
+    ensures { λ r. ⌜ (r ≡ rowsOf (wordAt (now («data» .entry)) (q + s .o))) × LowRows r ⌝ }
 {
-    read_rows(data, part_across(x, s.m) + s.o)
+    read_rows(data, q + s.o)
 }
 
-// What the block in column x has besides.
-pub fn own_at(data: &[u8], s: Strip, x: usize) -> Own
-    requires { ⌜ InStrip s (length (now «data»)) × (x < s .nx) ⌝ }
-    ensures { λ k. ⌜ (k ≡ ownOf (wordAt (now («data» .entry)) (placeIn s x 0)) (wordAt (now («data» .entry)) (placeIn s x 1)) (wordAt (now («data» .entry)) (placeIn s x 2))) × LowOwn k ⌝ }
+// What that block has besides.
+pub fn own_at(data: &[u8], s: Strip, q: usize) -> Own
+    requires { ⌜ InColumn s q (length (now «data»)) ⌝ }
+    ensures { λ k. ⌜ (k ≡ ownOf (wordAt (now («data» .entry)) (q + s .u)) (wordAt (now («data» .entry)) (q + s .o)) (wordAt (now («data» .entry)) (q + s .e))) × LowOwn k ⌝ }
 {
-    let p = part_across(x, s.m);
-    read_own(data, p + s.u, p + s.o, p + s.e)
+    read_own(data, q + s.u, q + s.o, q + s.e)
 }

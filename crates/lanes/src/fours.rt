@@ -1,14 +1,12 @@
 // A row of blocks at 4bpp.
 use crate::Codes;
 use crate::Column;
-use crate::Four;
 use crate::Spot;
 use crate::Strip;
 use crate::colors::byte;
 use crate::colors::fit_4bpp;
 use crate::colors::mix;
-use crate::colors::row_a;
-use crate::colors::row_b;
+use crate::colors::step;
 use crate::places::column_at;
 use crate::places::next_column;
 use crate::places::part_across;
@@ -20,9 +18,9 @@ ghost use Prim.Native.Nat.{_+_, _*_, _%_, _<_, _≤_};
 ghost use lib.ListN.{length, getD};
 ghost use Rattle.paint.specs.Paint.{painted};
 ghost use Rattle.lanes.specs.Column.{wordAt, RowFits, Fits};
-ghost use Rattle.lanes.specs.Four.{weights, keeps, codesOf, rowOf4, inBlock4, fourAt};
+ghost use Rattle.lanes.specs.Four.{weights, keeps, codesOf, inRow4, inBlock4};
 ghost use Rattle.lanes.specs.Lanes.{texelLanes};
-ghost use Rattle.lanes.specs.Strip.{InStrip, placeIn, SpotFits, withRow, Ready, withBlockRow};
+ghost use Rattle.lanes.specs.Strip.{InColumn, SpotFits, Ready, withBlockRow};
 
 const WEIGHTS: [u64; 8] = [0, 3, 5, 8, 0, 4, 4, 8];
 
@@ -68,7 +66,8 @@ fn place(s: u64, m: u64) -> usize
     (s + m % 4) as usize
 }
 
-fn row_4bpp(
+// The first `columns` texels of a row, laid from word `at` on.
+fn lay_row_4bpp(
     wt: &[u64; 8],
     kt: &[u64; 8],
     la: u64,
@@ -79,75 +78,28 @@ fn row_4bpp(
     rb: u64,
     m: u64,
     s: u64,
-) -> Four
-    requires { ⌜ (now wt ≡ weights) × (now kt ≡ keeps) ⌝ }
-    requires { ⌜ RowFits la ca ra lb cb rb × (s ≤ 4) ⌝ }
-    ensures { λ r. ⌜ r ≡ rowOf4 la ca ra lb cb rb m s ⌝ }
-{
-    Four {
-        t0: texel_4bpp(wt, kt, 2 * la + 2 * ca, 2 * lb + 2 * cb, place(s, m)),
-        t1: texel_4bpp(wt, kt, la + 3 * ca, lb + 3 * cb, place(s, m / 4)),
-        t2: texel_4bpp(wt, kt, 4 * ca, 4 * cb, place(s, m / 16)),
-        t3: texel_4bpp(wt, kt, ra + 3 * ca, rb + 3 * cb, place(s, m / 64)),
-    }
-}
-
-// The first words of four, where the picture is clipped.
-fn clip_4bpp(t: Four, columns: usize, at: usize, image: &mut [u32])
-    requires { ⌜ (columns ≤ 4) × (at + columns ≤ length (now image)) ⌝ }
-    ensures { λ _. ⌜ now (image .exit) ≡ painted at columns columns 1 (λ x y. fourAt t x) (now (image .entry)) ⌝ }
-{
-    let v = [t.t0, t.t1, t.t2, t.t3];
-    for i in 0..columns {
-        image[at + i] = v[i];
-    }
-}
-
-fn lay_4bpp(t: Four, columns: usize, at: usize, image: &mut [u32])
-    requires { ⌜ (columns ≤ 4) × (at + columns ≤ length (now image)) ⌝ }
-    ensures { λ _. ⌜ now (image .exit) ≡ painted at columns columns 1 (λ x y. fourAt t x) (now (image .entry)) ⌝ }
-{
-    if columns == 4 {
-        image[at] = t.t0;
-        image[at + 1] = t.t1;
-        image[at + 2] = t.t2;
-        image[at + 3] = t.t3;
-    } else {
-        clip_4bpp(t, columns, at, image);
-    }
-}
-
-// Row j of the block of the column c, between l and r, if the picture has it.
-fn lay_row_4bpp(
-    wt: &[u64; 8],
-    kt: &[u64; 8],
-    l: Column,
-    c: Column,
-    r: Column,
-    k: Codes,
-    p: Spot,
-    j: usize,
+    columns: usize,
+    at: usize,
     image: &mut [u32],
 )
     requires { ⌜ (now wt ≡ weights) × (now kt ≡ keeps) ⌝ }
-    requires { ⌜ Fits l × Fits c × Fits r × (k .s ≤ 4) ⌝ }
-    requires { ⌜ SpotFits p 4 (length (now image)) × (j < 4) ⌝ }
-    ensures { λ _. ⌜ now (image .exit) ≡ withRow p j (λ x. inBlock4 l c r k x j) (now (image .entry)) ⌝ }
+    requires { ⌜ RowFits la ca ra lb cb rb × (s ≤ 4) ⌝ }
+    requires { ⌜ (columns ≤ 4) × (at + columns ≤ length (now image)) ⌝ }
+    ensures { λ _. ⌜ now (image .exit) ≡ painted at columns columns 1 (λ x y. inRow4 la ca ra lb cb rb m s x) (now (image .entry)) ⌝ }
 {
-    if j >= p.rows {
-        return;
+    let mut x = 2 * la + 2 * ca;
+    let mut y = 2 * lb + 2 * cb;
+    for i in 0..4 {
+        let t = texel_4bpp(wt, kt, x, y, place(s, m >> (2 * i)));
+        if i < columns {
+            image[at + i] = t;
+        }
+        x = step(2, i, x, la, ca, ra);
+        y = step(2, i, y, lb, cb, rb);
     }
-    let la = row_a(l, j);
-    let ca = row_a(c, j);
-    let ra = row_a(r, j);
-    let lb = row_b(l, j);
-    let cb = row_b(c, j);
-    let rb = row_b(r, j);
-    let t = row_4bpp(wt, kt, la, ca, ra, lb, cb, rb, k.m >> (8 * j), k.s);
-    lay_4bpp(t, p.columns, p.at + j * p.width, image);
 }
 
-// The whole block.
+// The block of the column c, between l and r.
 fn lay_block_4bpp(
     wt: &[u64; 8],
     kt: &[u64; 8],
@@ -163,18 +115,31 @@ fn lay_block_4bpp(
     requires { ⌜ SpotFits p 4 (length (now image)) ⌝ }
     ensures { λ _. ⌜ now (image .exit) ≡ painted (p .at) (p .width) (p .columns) (p .rows) (inBlock4 l c r k) (now (image .entry)) ⌝ }
 {
-    lay_row_4bpp(wt, kt, l, c, r, k, p, 0, image);
-    lay_row_4bpp(wt, kt, l, c, r, k, p, 1, image);
-    lay_row_4bpp(wt, kt, l, c, r, k, p, 2, image);
-    lay_row_4bpp(wt, kt, l, c, r, k, p, 3, image);
+    for j in 0..p.rows {
+        lay_row_4bpp(
+            wt,
+            kt,
+            l.a[j],
+            c.a[j],
+            r.a[j],
+            l.b[j],
+            c.b[j],
+            r.b[j],
+            k.m >> (8 * j),
+            k.s,
+            p.columns,
+            p.at + j * p.width,
+            image,
+        );
+    }
 }
 
-// The codes of the word in column x.
-fn codes_at(data: &[u8], s: Strip, x: usize) -> Codes
-    requires { ⌜ InStrip s (length (now «data»)) × (x < s .nx) ⌝ }
-    ensures { λ r. ⌜ (r ≡ codesOf (wordAt (now («data» .entry)) (placeIn s x 1))) × (r .s ≤ 4) ⌝ }
+// The codes of the block in the column that adds q to an address.
+fn codes_at(data: &[u8], s: Strip, q: usize) -> Codes
+    requires { ⌜ InColumn s q (length (now «data»)) ⌝ }
+    ensures { λ r. ⌜ (r ≡ codesOf (wordAt (now («data» .entry)) (q + s .o))) × (r .s ≤ 4) ⌝ }
 {
-    read_codes(data, part_across(x, s.m) + s.o)
+    read_codes(data, q + s.o)
 }
 
 // Row `by` of blocks of a picture at 4bpp, laid into the image.
@@ -193,11 +158,12 @@ pub fn decode_block_row_4bpp(
     let wt = WEIGHTS;
     let kt = KEEPS;
     let s = row_of_blocks(nx, ny, by);
-    let mut l = column_at(data, s, nx - 1);
-    let mut c = column_at(data, s, 0);
-    let mut k = codes_at(data, s, 0);
+    let mut l = column_at(data, s, part_across(nx - 1, s.m));
+    let q = part_across(0, s.m);
+    let mut c = column_at(data, s, q);
+    let mut k = codes_at(data, s, q);
     for bx in 0..nx {
-        let x = next_column(bx, nx);
+        let x = part_across(next_column(bx, nx), s.m);
         let r = column_at(data, s, x);
         let n = codes_at(data, s, x);
         lay_block_4bpp(

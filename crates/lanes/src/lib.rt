@@ -14,14 +14,8 @@ ghost use Rattle.lanes.specs.Strip.{Ready, withBlockRow};
 
 // Rows 0 to 3 of a block, of colour A and of colour B.
 pub struct Column {
-    pub a0: u64,
-    pub a1: u64,
-    pub a2: u64,
-    pub a3: u64,
-    pub b0: u64,
-    pub b1: u64,
-    pub b2: u64,
-    pub b3: u64,
+    pub a: [u64; 4],
+    pub b: [u64; 4],
 }
 
 // A row of blocks: the grid, the row, the smaller side, and what the rows above, own and below add to an address.
@@ -49,20 +43,9 @@ pub struct Codes {
     pub s: u64,
 }
 
-// Four words of a row.
-pub struct Four {
-    pub t0: u32,
-    pub t1: u32,
-    pub t2: u32,
-    pub t3: u32,
-}
-
 // Four rows of eight weights, each weight a byte.
 pub struct Rows {
-    pub w0: u64,
-    pub w1: u64,
-    pub w2: u64,
-    pub w3: u64,
+    pub w: [u64; 4],
 }
 
 // The rows over a block's upper and lower edge, its mode, and how its fill counts the weights beside a texel, and above and below it.
@@ -72,18 +55,6 @@ pub struct Own {
     pub one: u64,
     pub hx: u64,
     pub vx: u64,
-}
-
-// Eight words of a row.
-pub struct Eight {
-    pub t0: u32,
-    pub t1: u32,
-    pub t2: u32,
-    pub t3: u32,
-    pub t4: u32,
-    pub t5: u32,
-    pub t6: u32,
-    pub t7: u32,
 }
 
 // Row `by` of blocks of a picture of nx by ny blocks, at either depth, laid into the image.

@@ -7,8 +7,8 @@ ghost use mathlib.Core.Path.{_≡_};
 ghost use Prim.Native.Nat.{_+_, _*_, _<_, _≤_, min};
 ghost use lib.ListN.{length};
 ghost use Rattle.grid.specs.Grid.{Power, log2, address, beside, spreadBits, Placed};
-ghost use Rattle.lanes.specs.Column.{Fits};
-ghost use Rattle.lanes.specs.Strip.{stripOf, InStrip, columnIn, spotOf, SpotAsked};
+ghost use Rattle.lanes.specs.Column.{columnOf, Fits};
+ghost use Rattle.lanes.specs.Strip.{stripOf, InColumn, spotOf, SpotAsked};
 
 pub fn least(a: usize, b: usize) -> usize
     ensures { λ r. ⌜ r ≡ min a b ⌝ }
@@ -60,13 +60,12 @@ pub fn row_of_blocks(nx: usize, ny: usize, by: usize) -> Strip
     }
 }
 
-// The three words of column x.
-pub fn column_at(data: &[u8], s: Strip, x: usize) -> Column
-    requires { ⌜ InStrip s (length (now «data»)) × (x < s .nx) ⌝ }
-    ensures { λ k. ⌜ (k ≡ columnIn s (now («data» .entry)) x) × Fits k ⌝ }
+// The three words of the column that adds q to an address.
+pub fn column_at(data: &[u8], s: Strip, q: usize) -> Column
+    requires { ⌜ InColumn s q (length (now «data»)) ⌝ }
+    ensures { λ k. ⌜ (k ≡ columnOf (now («data» .entry)) (q + s .u) (q + s .o) (q + s .e)) × Fits k ⌝ }
 {
-    let p = part_across(x, s.m);
-    summed(data, p + s.u, p + s.o, p + s.e)
+    summed(data, q + s.u, q + s.o, q + s.e)
 }
 
 // The column after column x, round the torus.

@@ -68,15 +68,9 @@ pub fn decode_row(
     for x in 0..width {
         if place_of(x, is2bpp) == 0 {
             let bx = block_of(x, is2bpp);
-            nine = texel::next_words(&table, data, nx, ny, is2bpp, nine, bx, y / 4, y % 4);
-            texel::texels_in(
-                nine,
-                is2bpp,
-                0,
-                y % 4,
-                grid::block_width(is2bpp),
-                &mut texels,
-            );
+            let next = texel::next_words(&table, data, nx, ny, is2bpp, nine, bx, y / 4, y % 4);
+            texel::texels_in(next, is2bpp, 0, y % 4, grid::block_width(is2bpp), &mut texels);
+            nine = next;
         }
         let Texel::Word(word) = known_texel(&texels, data, p, x, y) else {
             // By the checks above no texel of the row is refused.

@@ -1,7 +1,12 @@
 -- `lanes::colors::lane_b` meets its contract, both where the colour is opaque and where it is not. Assumes nothing.
+use mathlib.Core.Path.{_≡_, refl, ap, _∙_}
+use mathlib.Core.Bool.{cond}
+use Prim.Native.Nat.{ℕ, _+_, _*_, _/_, _%_}
 use native.Mathlib.Omega.{arith}
 use borrow.Author.Needs.{needs}
-use borrow.Author.Tests.{eq-eqb, ne-eqb}
+use Rattle.word.specs.Word.{opaque, colorOf}
+use Rattle.lanes.specs.Lanes.{colorLanes}
+use Rattle.lanes.proofs.Reading.{color-lanes, top-bit, translucent}
 use Rattle.lanes.proofs.colors.lane_b.Statement.{statement}
 use Rattle.lanes.proofs.colors.lane_b.Tie as tie
 
@@ -20,47 +25,38 @@ add-x-2 c = search needs
 add-x-3 : tie.Need-add-x-3
 add-x-3 c = search needs
 
+mul-widen : tie.Need-mul-widen
+mul-widen c = search needs
+
+add-widen : tie.Need-add-widen
+add-widen c = search needs
+
+mul-widen-2 : tie.Need-mul-widen-2
+mul-widen-2 c = search needs
+
+add-widen-2 : tie.Need-add-widen-2
+add-widen-2 c = search needs
+
+widen-requires : tie.Need-widen-requires
+widen-requires c κs = search needs
+
 mul-y : tie.Need-mul-y
 mul-y c = search needs
 
 add-y : tie.Need-add-y
 add-y c = search needs
 
-mul-y-2 : tie.Need-mul-y-2
-mul-y-2 c = search needs
-
-add-y-2 : tie.Need-add-y-2
-add-y-2 c = search needs
-
-mul-y-3 : tie.Need-mul-y-3
-mul-y-3 c = search needs
-
-add-y-3 : tie.Need-add-y-3
-add-y-3 c = search needs
-
-mul-y-4 : tie.Need-mul-y-4
-mul-y-4 c = search needs
-
-add-y-4 : tie.Need-add-y-4
-add-y-4 c = search needs
-
-mul-y-5 : tie.Need-mul-y-5
-mul-y-5 c = search needs
-
-add-y-5 : tie.Need-add-y-5
-add-y-5 c = search needs
-
-mul-y-6 : tie.Need-mul-y-6
-mul-y-6 c = search needs
-
-add-y-6 : tie.Need-add-y-6
-add-y-6 c = search needs
+pick-requires : tie.Need-pick-requires
+pick-requires c κs = search needs
 
 returns : tie.Need-returns
-returns c = simp (eq-eqb _ _ (c .if1 .taken)) (omega arith)
-
-returns-2 : tie.Need-returns-2
-returns-2 c = simp (ne-eqb _ _ (c .if1 .left)) (omega arith)
+returns c =
+    let k = c .before .before .args .c in
+    let w = translucent k (k % 16) (omega arith) refl (c .before .widen .ensures .0) in
+    let b = top-bit k in
+    let y : c .before .widen .result + 1125899906842624 * (k / 4096 % 8) ≡ (k % 16 * 2 + k / 8 % 2) + 65536 * (k / 256 % 16 * 2 + k / 2048 % 2) + 4294967296 * (k / 16 % 16 * 2 + k / 128 % 2) + 1125899906842624 * (k / 4096 % 8) = omega arith in
+    let e : k ≡ k / 1 = omega arith in
+    c .pick .ensures ∙ ap (cond (opaque k) _) y ∙ color-lanes k (k % 32) (k % 16 * 2 + k / 8 % 2) ∙ ap (λ (n : ℕ). colorLanes (colorOf k (cond (opaque k) (n % 32) (n % 16 * 2 + k / 8 % 2)))) e
 
 pub lane-b-spec : {M : Type 1} → statement M
 lane-b-spec =
@@ -71,17 +67,12 @@ lane-b-spec =
     mul-x-2
     add-x-2
     add-x-3
+    mul-widen
+    add-widen
+    mul-widen-2
+    add-widen-2
+    widen-requires
     mul-y
     add-y
-    mul-y-2
-    add-y-2
-    mul-y-3
-    add-y-3
-    mul-y-4
-    add-y-4
-    mul-y-5
-    add-y-5
-    mul-y-6
-    add-y-6
-    returns
-    returns-2)
+    pick-requires
+    returns)

@@ -47,35 +47,35 @@ mul-t17 c = search needs
 add-t18 : tie.Need-add-t18
 add-t18 c = search needs
 
-mul-t19 : tie.Need-mul-t19
-mul-t19 c = search needs
-
 mul-t20 : tie.Need-mul-t20
 mul-t20 c = search needs
 
-add-t21 : tie.Need-add-t21
-add-t21 c = search needs
+mul-t21 : tie.Need-mul-t21
+mul-t21 c = search needs
 
-mul-t22 : tie.Need-mul-t22
-mul-t22 c = search needs
+add-t22 : tie.Need-add-t22
+add-t22 c = search needs
 
-add-t23 : tie.Need-add-t23
-add-t23 c = search needs
+mul-t23 : tie.Need-mul-t23
+mul-t23 c = search needs
 
-mul-t24 : tie.Need-mul-t24
-mul-t24 c = search needs
+add-t24 : tie.Need-add-t24
+add-t24 c = search needs
 
 mul-t25 : tie.Need-mul-t25
 mul-t25 c = search needs
 
-add-t26 : tie.Need-add-t26
-add-t26 c = search needs
+mul-t26 : tie.Need-mul-t26
+mul-t26 c = search needs
+
+add-t27 : tie.Need-add-t27
+add-t27 c = search needs
 
 returns : tie.Need-returns
 returns c =
     let a = c .before .before .before .before .before .before .before .args in
-    summed-is (now (a .d)) (a .p) (a .q) (a .s) (c .before .before .before .before .before .word-a .ensures) (c .before .before .before .before .word-a2 .ensures) (c .before .before .before .word-a3 .ensures)
-    (c .before .before .word-b .ensures) (c .before .word-b2 .ensures) (c .word-b3 .ensures)
+    summed-is (now (a .d)) (a .p) (a .q) (a .s) (c .before .before .before .before .before .word-a .ensures .0) (c .before .before .before .before .word-a2 .ensures .0) (c .before .before .before .word-a3 .ensures .0)
+    (c .before .before .word-b .ensures .0) (c .before .word-b2 .ensures .0) (c .word-b3 .ensures .0)
 
 pub summed-spec : {M : Type 1} → statement M
 summed-spec =
@@ -95,12 +95,12 @@ summed-spec =
     mul-t16
     mul-t17
     add-t18
-    mul-t19
     mul-t20
-    add-t21
-    mul-t22
-    add-t23
-    mul-t24
+    mul-t21
+    add-t22
+    mul-t23
+    add-t24
     mul-t25
-    add-t26
+    mul-t26
+    add-t27
     returns)

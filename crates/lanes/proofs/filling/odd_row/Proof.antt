@@ -1,27 +1,31 @@
 -- `lanes::filling::odd_row` meets its contract: `Stored` has it for each of the 256 bytes. Assumes nothing.
-use mathlib.Core.Path.{ap, _∙_}
-use borrow.Author.Needs.{needs}
+use mathlib.Core.Path.{ap₂, _∙_}
+use mathlib.Core.Bool.{cond}
 use Prim.Native.Nat.{ℕ, _*_}
-use borrow.Author.Tests.{eq-eqb, ne-eqb}
-use Rattle.lanes.proofs.Stored.{odd-one, odd-zero}
+use borrow.Author.Needs.{needs}
+use lib.Dec.{eqb}
+use Rattle.lanes.proofs.Stored.{odd-is}
 use Rattle.lanes.proofs.filling.odd_row.Statement.{statement}
 use Rattle.lanes.proofs.filling.odd_row.Tie as tie
 
 codes-row-requires : tie.Need-codes-row-requires
 codes-row-requires c κs = search needs
 
-mul-result : tie.Need-mul-result
-mul-result c = search needs
+mul-pick : tie.Need-mul-pick
+mul-pick c = search needs
 
 bits-row-requires : tie.Need-bits-row-requires
 bits-row-requires c κs = search needs
 
-returns : tie.Need-returns
-returns c = simp (eq-eqb _ _ (c .before .if1 .taken)) (ap (λ (n : ℕ). n * 256) (c .codes-row .ensures .0) ∙ odd-one (c .before .before .args .b) (c .before .before .pre))
+pick-requires : tie.Need-pick-requires
+pick-requires c κs = search needs
 
-returns-2 : tie.Need-returns-2
-returns-2 c = simp (ne-eqb _ _ (c .before .if1 .left)) (c .bits-row .ensures .0 ∙ odd-zero (c .before .before .args .b) (c .before .before .pre))
+returns : tie.Need-returns
+returns c =
+    let a = c .before .before .before .args in
+    c .pick .ensures ∙ ap₂ (λ (x y : ℕ). cond (eqb (a .one) 1) (x * 256) y) (c .before .before .codes-row .ensures .0) (c .before .bits-row .ensures .0)
+    ∙ odd-is (eqb (a .one) 1) (a .b) (c .before .before .before .pre .0)
 
 pub odd-row-spec : {M : Type 1} → statement M
 odd-row-spec =
-    tie.close (tie.spec codes-row-requires mul-result bits-row-requires returns returns-2)
+    tie.close (tie.spec codes-row-requires mul-pick bits-row-requires pick-requires returns)

@@ -1,7 +1,10 @@
 -- `lanes::filling::spread_row` meets its contract, in either mode. Assumes nothing.
+use mathlib.Core.Path.{ap₂, _∙_}
+use mathlib.Core.Bool.{cond}
 use native.Mathlib.Omega.{arith}
 use borrow.Author.Needs.{needs}
-use borrow.Author.Tests.{eq-eqb, ne-eqb}
+use lib.Dec.{eqb}
+use Rattle.lanes.proofs.Reading.{either-le}
 use Rattle.lanes.proofs.filling.spread_row.Statement.{statement}
 use Rattle.lanes.proofs.filling.spread_row.Tie as tie
 
@@ -11,11 +14,15 @@ codes-row-requires c κs = search needs
 bits-row-requires : tie.Need-bits-row-requires
 bits-row-requires c κs = search needs
 
-returns : tie.Need-returns
-returns c = (simp (eq-eqb _ _ (c .before .if1 .taken)) (c .codes-row .ensures .0), omega (arith, c .codes-row .ensures .1))
+pick-requires : tie.Need-pick-requires
+pick-requires c κs = search needs
 
-returns-2 : tie.Need-returns-2
-returns-2 c = (simp (ne-eqb _ _ (c .before .if1 .left)) (c .bits-row .ensures .0), c .bits-row .ensures .1)
+returns : tie.Need-returns
+returns c =
+    let t = eqb (c .before .before .before .args .one) 1 in
+    let x = c .before .before .codes-row .ensures in
+    let y = c .before .bits-row .ensures in
+    (c .pick .ensures ∙ ap₂ (cond t) (x .0) (y .0), rw (c .pick .ensures) (either-le t (omega (arith, x .1)) (y .1)))
 
 pub spread-row-spec : {M : Type 1} → statement M
-spread-row-spec = tie.close (tie.spec codes-row-requires bits-row-requires returns returns-2)
+spread-row-spec = tie.close (tie.spec codes-row-requires bits-row-requires pick-requires returns)

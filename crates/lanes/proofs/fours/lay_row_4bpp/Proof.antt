@@ -1,84 +1,146 @@
--- `lanes::fours::lay_row_4bpp` meets its contract, where the picture has the row and where it has not. Assumes nothing.
+-- `lanes::fours::lay_row_4bpp` meets its contract. The loop keeps the two sums of place i, and that the words before it are laid. Assumes nothing.
+use mathlib.Core.Path.{_≡_}
+use mathlib.Core.Logic.{⊎-elim}
+use Prim.Native.Nat.{_-_, _≤_, min}
 use native.Mathlib.Omega.{arith}
+use borrow.Author.Needs.{needs}
 use denote.Ref.{now}
-use lib.ListN.{length}
-use Rattle.lanes.specs.Four.{fourAt, inBlock4}
-use Rattle.lanes.proofs.Laying.{four-at, row-fits, start-fits, row-laid, row-missing, words-kept}
+use Rattle.paint.proofs.Laid.{Row}
+use Rattle.lanes.specs.Four.{inRow4}
+use Rattle.lanes.specs.Lanes.{shared}
+use Rattle.lanes.proofs.Laying.{row-start, word-laid, word-cut, words-laid}
+use Rattle.lanes.proofs.Linear.{shared-first, sums-fit}
+use Rattle.lanes.proofs.Texel4.{row-texel}
 use Rattle.lanes.proofs.fours.lay_row_4bpp.Statement.{statement}
 use Rattle.lanes.proofs.fours.lay_row_4bpp.Tie as tie
 
-returns : tie.Need-returns
+abbrev Inv-loop : tie.InvT-loop
+Inv-loop wt kt la ca ra lb cb rb m s columns at image₀ x₀ y₀ i₀ image x y i = (i ≤ 4) × (x ≡ shared 2 i la ca ra) × (y ≡ shared 2 i lb cb rb) × Row (λ x y. inRow4 la ca ra lb cb rb m s x) image₀ at columns (min i columns) image
+
+abbrev μ-loop : tie.MeasureT-loop
+μ-loop wt kt la ca ra lb cb rb m s columns at image₀ x₀ y₀ i₀ image x y i = 4 - i
+
+mul-x : tie.Need-mul-x Inv-loop μ-loop
+mul-x c = omega (arith, c .before .pre .1 .0 .0 .la)
+
+mul-x-2 : tie.Need-mul-x-2 Inv-loop μ-loop
+mul-x-2 c = omega (arith, c .before .pre .1 .0 .0 .ca)
+
+add-x : tie.Need-add-x Inv-loop μ-loop
+add-x c = omega (arith, c .before .pre .1 .0 .0 .la, c .before .pre .1 .0 .0 .ca)
+
+mul-y : tie.Need-mul-y Inv-loop μ-loop
+mul-y c = omega (arith, c .before .pre .1 .0 .0 .lb)
+
+mul-y-2 : tie.Need-mul-y-2 Inv-loop μ-loop
+mul-y-2 c = omega (arith, c .before .pre .1 .0 .0 .cb)
+
+add-y : tie.Need-add-y Inv-loop μ-loop
+add-y c = omega (arith, c .before .pre .1 .0 .0 .lb, c .before .pre .1 .0 .0 .cb)
+
+loop-holds : tie.Need-loop-holds Inv-loop μ-loop
+loop-holds c =
+    let a = c .before .args in (
+      omega arith,
+      shared-first 2 (a .la) (a .ca) (a .ra),
+      shared-first 2 (a .lb) (a .cb) (a .rb),
+      row-start (λ x y. inRow4 (a .la) (a .ca) (a .ra) (a .lb) (a .cb) (a .rb) (a .m) (a .s) x) (now (a .image)) (a .at) (a .columns),
+    )
+
+mul-place : tie.Need-mul-place Inv-loop μ-loop
+mul-place c = omega (arith, c .loop-test .taken)
+
+shr-place : tie.Need-shr-place Inv-loop μ-loop
+shr-place c = omega (arith, c .loop-test .taken)
+
+place-requires : tie.Need-place-requires Inv-loop μ-loop
+place-requires c κs = c .before .before .before .pre .1 .0 .1
+
+texel-4bpp-requires : tie.Need-texel-4bpp-requires Inv-loop μ-loop
+texel-4bpp-requires c κs =
+    let a = c .before .before .before .before .args in
+    let f = c .before .before .before .before .pre .1 .0 .0 in
+    let l = c .before .before .loop in
+    let early : l .i ≤ 4 = omega (arith, c .before .loop-test .taken) in (
+      c .before .before .before .before .pre .0,
+      (
+        rw (l .inv .1) (sums-fit 2 (l .i) (a .la) (a .ca) (a .ra) (omega arith) early (f .la) (f .ca) (f .ra)),
+        rw (l .inv .2) (sums-fit 2 (l .i) (a .lb) (a .cb) (a .rb) (omega arith) early (f .lb) (f .cb) (f .rb)),
+        c .place .ensures .1,
+      ),
+    )
+
+add-image : tie.Need-add-image Inv-loop μ-loop
+add-image c = search needs
+
+mul-image : tie.Need-mul-image Inv-loop μ-loop
+mul-image c = search needs
+
+slice-write-image : tie.Need-slice-write-image Inv-loop μ-loop
+slice-write-image c = rw (c .before .before .before .before .loop .inv .3 .len) (omega (arith, c .if1 .taken, c .before .before .before .before .before .before .pre .1 .1 .1))
+
+step-requires : tie.Need-step-requires Inv-loop μ-loop
+step-requires c κs =
+    let f = c .before .before .before .before .before .before .pre .1 .0 .0 in
+    let l = c .before .before .before .before .loop in
+    ((omega arith, c .before .before .before .loop-test .taken, l .inv .1), (f .la, f .ca, f .ra))
+
+step-requires-2 : tie.Need-step-requires-2 Inv-loop μ-loop
+step-requires-2 c κs =
+    let f = c .before .before .before .before .before .before .before .pre .1 .0 .0 in
+    let l = c .before .before .before .before .before .loop in
+    ((omega arith, c .before .before .before .before .loop-test .taken, l .inv .2), (f .lb, f .cb, f .rb))
+
+add-i : tie.Need-add-i Inv-loop μ-loop
+add-i c = omega (arith, c .before .before .before .before .before .loop-test .taken)
+
+loop-less : tie.Need-loop-less Inv-loop μ-loop
+loop-less c = omega (arith, c .before .before .before .before .before .loop-test .taken)
+
+loop-again : tie.Need-loop-again Inv-loop μ-loop
+loop-again c =
+    let a = c .before .before .before .before .before .before .before .before .args in
+    let l = c .before .before .before .before .before .before .loop in
+    let r = l .inv .3 in
+    let t = row-texel (a .la) (a .ca) (a .ra) (a .lb) (a .cb) (a .rb) (a .m) (a .s) (l .i) (c .before .before .before .texel-4bpp .ensures) (l .inv .1) (l .inv .2) (c .before .before .before .before .place .ensures .0) in (
+      omega (arith, c .before .before .before .before .before .loop-test .taken),
+      c .before .step .ensures,
+      c .step2 .ensures,
+      ⊎-elim (λ b. rw (b .1) (word-laid (l .i) r t (b .0 .taken) (c .before .before .before .before .before .before .before .before .pre .1 .1 .1))) (λ b. rw (b .1) (word-cut (l .i) r (b .0 .left))) (c .before .before .if1 .came),
+    )
+
+same-length : tie.Need-same-length Inv-loop μ-loop
+same-length c = c .before .loop .inv .3 .len
+
+returns : tie.Need-returns Inv-loop μ-loop
 returns c =
-    let a = c .before .before .before .args in
-    row-missing (a .p) (a .j) (λ x. inBlock4 (a .l) (a .c) (a .r) (a .k) x (a .j)) (now (a .image)) (c .if1 .taken)
-
-row-a-requires : tie.Need-row-a-requires
-row-a-requires c κs = (c .before .before .before .pre .1 .0 .0, c .before .before .before .pre .1 .1 .1)
-
-row-a-requires-2 : tie.Need-row-a-requires-2
-row-a-requires-2 c κs = (c .before .before .before .before .pre .1 .0 .1, c .before .before .before .before .pre .1 .1 .1)
-
-row-a-requires-3 : tie.Need-row-a-requires-3
-row-a-requires-3 c κs = (c .before .before .before .before .before .pre .1 .0 .2, c .before .before .before .before .before .pre .1 .1 .1)
-
-row-b-requires : tie.Need-row-b-requires
-row-b-requires c κs = (c .before .before .before .before .before .before .pre .1 .0 .0, c .before .before .before .before .before .before .pre .1 .1 .1)
-
-row-b-requires-2 : tie.Need-row-b-requires-2
-row-b-requires-2 c κs = (c .before .before .before .before .before .before .before .pre .1 .0 .1, c .before .before .before .before .before .before .before .pre .1 .1 .1)
-
-row-b-requires-3 : tie.Need-row-b-requires-3
-row-b-requires-3 c κs = (c .before .before .before .before .before .before .before .before .pre .1 .0 .2, c .before .before .before .before .before .before .before .before .pre .1 .1 .1)
-
-mul-row-4bpp : tie.Need-mul-row-4bpp
-mul-row-4bpp c = omega (arith, c .before .before .before .before .before .before .before .before .before .pre .1 .1 .1)
-
-shr-row-4bpp : tie.Need-shr-row-4bpp
-shr-row-4bpp c = omega (arith, c .before .before .before .before .before .before .before .before .before .before .pre .1 .1 .1)
-
-row-4bpp-requires : tie.Need-row-4bpp-requires
-row-4bpp-requires c κs =
-    (c .before .before .before .before .before .before .before .before .before .before .pre .0, (record { la = c .before .before .before .before .before .before .row-a .ensures .1; ca = c .before .before .before .before .before .row-a2 .ensures .1; ra = c .before .before .before .before .row-a3 .ensures .1; lb = c .before .before .before .row-b .ensures .1; cb = c .before .before .row-b2 .ensures .1; rb = c .before .row-b3 .ensures .1 }, c .before .before .before .before .before .before .before .before .before .before .pre .1 .0 .3))
-
-mul-lay-4bpp : tie.Need-mul-lay-4bpp
-mul-lay-4bpp c = omega (arith, start-fits (c .before .before .before .before .before .before .before .before .before .before .before .before .args .p) 4 (length (now (c .before .before .before .before .before .before .before .before .before .before .before .before .args .image))) (c .before .before .before .before .before .before .before .before .before .before .before .before .args .j) (c .before .before .before .before .before .before .before .before .before .before .before .before .pre .1 .1 .0) (c .before .before .before .before .before .before .before .before .before .before .before .before .pre .1 .1 .1))
-
-add-lay-4bpp : tie.Need-add-lay-4bpp
-add-lay-4bpp c =
-    let a = c .before .before .before .before .before .before .before .before .before .before .before .before .before .args in
-    record { fits = start-fits (a .p) 4 (length (now (a .image))) (a .j) (c .before .before .before .before .before .before .before .before .before .before .before .before .before .pre .1 .1 .0) (c .before .before .before .before .before .before .before .before .before .before .before .before .before .pre .1 .1 .1) }
-
-lay-4bpp-requires : tie.Need-lay-4bpp-requires
-lay-4bpp-requires c κs =
-    let a = c .before .before .before .before .before .before .before .before .before .before .before .before .before .before .args in
-    (c .before .before .before .before .before .before .before .before .before .before .before .before .before .before .pre .1 .1 .0 .columns, row-fits (a .p) 4 (length (now (a .image))) (a .j) (c .before .before .before .before .before .before .before .before .before .before .before .before .before .before .pre .1 .1 .0) (c .before .before .before .before .before .before .before .before .before .before .before .if1 .left))
-
-same-length : tie.Need-same-length
-same-length c = rw (c .before .before .lay-4bpp .ensures, words-kept)
-
-returns-2 : tie.Need-returns-2
-returns-2 c =
-    let a = c .before .before .before .before .before .before .before .before .before .before .before .before .before .before .before .before .before .args in
-    row-laid (a .p) 4 (a .j) (fourAt (c .before .before .before .before .before .before .row-4bpp .result)) (λ x. inBlock4 (a .l) (a .c) (a .r) (a .k) x (a .j)) (now (a .image)) (c .before .before .before .before .before .before .before .before .before .before .before .before .before .before .before .before .before .pre .1 .1 .0 .columns) (c .before .before .before .before .before .before .before .before .before .before .before .before .before .before .if1 .left)
-    (λ x h. four-at (a .l) (a .c) (a .r) (a .k) (a .j) x (c .before .before .before .before .before .before .before .before .before .before .before .before .before .row-a .ensures .0) (c .before .before .before .before .before .before .before .before .before .before .before .before .row-a2 .ensures .0) (c .before .before .before .before .before .before .before .before .before .before .before .row-a3 .ensures .0) (c .before .before .before .before .before .before .before .before .before .before .row-b .ensures .0) (c .before .before .before .before .before .before .before .before .before .row-b2 .ensures .0) (c .before .before .before .before .before .before .before .before .row-b3 .ensures .0)
-    (c .before .before .before .before .before .before .row-4bpp .ensures) h) (c .before .before .lay-4bpp .ensures)
+    let l = c .before .loop in
+    words-laid (l .i) (l .inv .3) (omega (arith, c .loop-test .left, c .before .before .before .pre .1 .1 .0))
 
 pub lay-row-4bpp-spec : {M : Type 1} → statement M
 lay-row-4bpp-spec =
     tie.close
     (tie.spec
-    returns
-    row-a-requires
-    row-a-requires-2
-    row-a-requires-3
-    row-b-requires
-    row-b-requires-2
-    row-b-requires-3
-    mul-row-4bpp
-    shr-row-4bpp
-    row-4bpp-requires
-    mul-lay-4bpp
-    add-lay-4bpp
-    lay-4bpp-requires
+    Inv-loop
+    μ-loop
+    mul-x
+    mul-x-2
+    add-x
+    mul-y
+    mul-y-2
+    add-y
+    loop-holds
+    mul-place
+    shr-place
+    place-requires
+    texel-4bpp-requires
+    add-image
+    mul-image
+    slice-write-image
+    step-requires
+    step-requires-2
+    add-i
+    loop-less
+    loop-again
     same-length
-    returns-2)
+    returns)
