@@ -60,7 +60,8 @@ fn address_of(x: usize, y: usize, side: usize, by_table: bool) -> usize
     requires { ⌜ Placed side x y ⌝ }
 {
     if by_table {
-        grid::morton_index_by_table(x, y, side)
+        let table = grid::spread_table();
+        grid::morton_index_by_table(&table, x, y, side)
     } else {
         grid::morton_index(x, y, side)
     }

@@ -69,7 +69,14 @@ pub fn decode_row(
         if place_of(x, is2bpp) == 0 {
             let bx = block_of(x, is2bpp);
             let next = texel::next_words(&table, data, nx, ny, is2bpp, nine, bx, y / 4, y % 4);
-            texel::texels_in(next, is2bpp, 0, y % 4, grid::block_width(is2bpp), &mut texels);
+            texel::texels_in(
+                next,
+                is2bpp,
+                0,
+                y % 4,
+                grid::block_width(is2bpp),
+                &mut texels,
+            );
             nine = next;
         }
         let Texel::Word(word) = known_texel(&texels, data, p, x, y) else {

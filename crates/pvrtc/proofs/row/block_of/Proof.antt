@@ -1,15 +1,12 @@
+-- `pvrtc::row::block_of` meets its contract, by the depth. Assumes nothing.
 use Rattle.pvrtc.proofs.row.block_of.Statement.{statement}
 use Rattle.pvrtc.proofs.row.block_of.Tie as tie
-use Rattle.pvrtc.proofs.row.block_of.Reads as reads
-use Rattle.pvrtc.proofs.row.block_of.Lts as lts
 
--- src/row.rt:15:1
 returns : tie.Need-returns
-returns c = ?
+returns c = rw (c .if1 .taken)
 
--- src/row.rt:15:1
 returns-2 : tie.Need-returns-2
-returns-2 c = ?
+returns-2 c = rw (c .if1 .left)
 
 pub block-of-spec : {M : Type 1} → statement M
 block-of-spec = tie.close (tie.spec returns returns-2)

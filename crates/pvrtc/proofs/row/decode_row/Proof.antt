@@ -1,135 +1,223 @@
+-- `pvrtc::row::decode_row` meets its contract. The loop keeps that the first x words are the row's texels, and what `InRow` says is held;
+-- it has too that no texel is refused. Assumes nothing.
+use mathlib.Core.Path.{_≡_, refl, sym, ap, ap₂, _∙_}
+use mathlib.Core.Logic.{⊎-elim}
+use Prim.Native.Nat.{ℕ, _-_, _/_, _%_, _≤_, _<_}
+use native.Mathlib.Omega.{arith}
+use denote.Ref.{now}
+use lib.ListN.{length}
+use borrow.Author.Needs.{needs}
+use Rattle.grid.proofs.Powers.{power-above}
+use Rattle.paint.proofs.Laid.{Row, row-none}
+use Rattle.paint.specs.Paint.{painted}
+use Rattle.pvrtc.proofs.Accepted.{Accepted, accepted, grid, column-in, row-in, row-inside, row-roomy, width-small}
+use Rattle.pvrtc.proofs.InRow.{not-refused, its-word, next-word, Before, Held, held-none, slides, slides-read, held-first, held-later, held-texel, held-next}
+use Rattle.pvrtc.proofs.Unique.{by-words, by-none}
+use Rattle.texel.proofs.Shares.{half-high}
+use Rattle.texel.specs.Needed.{rowWords, slid}
+use Rattle.texel.specs.Summed.{withTexels}
+use Rattle.pvrtc.specs.Calls.{picture, refusal, pictureTexel}
+use Rattle.pvrtc.specs.Refusals.{across, down, decodedNumber}
+use Rattle.pvrtc.specs.declared.Call.the-variants as call
 use Rattle.pvrtc.proofs.row.decode_row.Statement.{statement}
 use Rattle.pvrtc.proofs.row.decode_row.Tie as tie
-use Rattle.pvrtc.proofs.row.decode_row.Reads as reads
-use Rattle.pvrtc.proofs.row.decode_row.Lts as lts
-use Rattle.grid.proofs.block_width.Reads as block-width-reads
-use Rattle.grid.proofs.num_blocks_x.Reads as num-blocks-x-reads
-use Rattle.grid.proofs.num_blocks_y.Reads as num-blocks-y-reads
-use Rattle.grid.proofs.spread_table.Reads as spread-table-reads
-use Rattle.pvrtc.proofs.check.check.Reads as check-reads
-use Rattle.pvrtc.proofs.row.block_of.Reads as block-of-reads
-use Rattle.pvrtc.proofs.row.known_texel.Reads as known-texel-reads
-use Rattle.pvrtc.proofs.row.place_of.Reads as place-of-reads
-use Rattle.texel.proofs.first_words.Reads as first-words-reads
-use Rattle.texel.proofs.next_words.Reads as next-words-reads
-use Rattle.texel.proofs.texels_in.Reads as texels-in-reads
 
 abbrev Inv-loop : tie.InvT-loop
-Inv-loop «data» width height is2bpp y row₀ p table nx ny nine₀ texels₀ x₀ row nine texels x = ?
+Inv-loop «data» width height is2bpp y row₀ p table nx ny nine₀ texels₀ x₀ row nine texels x =
+    let p = picture width height is2bpp in
+    (x ≤ width)
+    × (refusal p (call.Row y (length row₀)) «data» ≡ 0)
+    × Row (λ x y'. pictureTexel p «data» x y) row₀ 0 width x row
+    × Before is2bpp (across p) (down p) «data» y x nine texels
 
 abbrev μ-loop : tie.MeasureT-loop
-μ-loop «data» width height is2bpp y row₀ p table nx ny nine₀ texels₀ x₀ row nine texels x = ?
+μ-loop «data» width height is2bpp y row₀ p table nx ny nine₀ texels₀ x₀ row nine texels x = width - x
 
--- src/row.rt:59:9
 check-requires : tie.Need-check-requires Inv-loop μ-loop
-check-requires c κs = ?
+check-requires c κs = search needs
 
 enum-told : tie.Need-enum-told Inv-loop μ-loop
-enum-told c = ?
+enum-told c = search needs
 
--- src/row.rt:61:9
 enum-told-2 : tie.Need-enum-told-2 Inv-loop μ-loop
-enum-told-2 c = ?
+enum-told-2 c = search needs
 
--- src/row.rt:61:9
 returns : tie.Need-returns Inv-loop μ-loop
-returns c = ?
+returns c = by-none (c .before .before .check .ensures) (c .enum-told2 .given .1)
 
--- src/row.rt:63:17
 spread-table-requires : tie.Need-spread-table-requires Inv-loop μ-loop
-spread-table-requires c κs = ?
+spread-table-requires c κs = search needs
 
--- src/row.rt:64:9
 num-blocks-x-requires : tie.Need-num-blocks-x-requires Inv-loop μ-loop
-num-blocks-x-requires c κs = ?
+num-blocks-x-requires c κs = search needs
 
--- src/row.rt:65:9
 num-blocks-y-requires : tie.Need-num-blocks-y-requires Inv-loop μ-loop
-num-blocks-y-requires c κs = ?
+num-blocks-y-requires c κs = search needs
 
--- src/row.rt:66:69
 sub-first-words : tie.Need-sub-first-words Inv-loop μ-loop
-sub-first-words c = ?
+sub-first-words c =
+    let a = c .before .before .before .before .before .before .before .before .before .args in
+    let p = picture (a .width) (a .height) (a .is2bpp) in
+    let told = sym (c .before .before .before .before .before .before .check .ensures) ∙ ap decodedNumber (c .before .before .before .before .enum-told .given .1) in
+    let ok = accepted p (call.Row (a .y) (length (now (a .row)))) (length (now (a .«data»))) told in
+    rw (c .before .before .num-blocks-x .ensures) (power-above (across p) (grid ok .power-across))
 
--- src/row.rt:66:9
 first-words-requires : tie.Need-first-words-requires Inv-loop μ-loop
-first-words-requires c κs = ?
+first-words-requires c κs =
+    let a = c .before .before .before .before .before .before .before .before .before .args in
+    let p = picture (a .width) (a .height) (a .is2bpp) in
+    let told = sym (c .before .before .before .before .before .before .check .ensures) ∙ ap decodedNumber (c .before .before .before .before .enum-told .given .1) in
+    let ok = accepted p (call.Row (a .y) (length (now (a .row)))) (length (now (a .«data»))) told in
+    let some = power-above (across p) (grid ok .power-across) in (
+      (c .before .before .before .spread-table .ensures, rw (c .before .before .num-blocks-x .ensures, c .before .num-blocks-y .ensures) (grid ok)),
+      rw (c .before .before .num-blocks-x .ensures, c .before .num-blocks-y .ensures) (omega arith, row-in ok (a .y) (row-inside p (a .y) (length (now (a .row))) (ok .inside)), omega arith),
+    )
 
--- src/row.rt:68:5
 loop-holds : tie.Need-loop-holds Inv-loop μ-loop
-loop-holds c = ?
+loop-holds c =
+    let a = c .before .before .before .before .before .before .before .before .before .before .args in
+    let p = picture (a .width) (a .height) (a .is2bpp) in
+    let told = sym (c .before .before .before .before .before .before .before .check .ensures) ∙ ap decodedNumber (c .before .before .before .before .before .enum-told .given .1) in
+    let ok = accepted p (call.Row (a .y) (length (now (a .row)))) (length (now (a .«data»))) told in
+    let words = c .first-words .ensures ∙ ap₂ (λ (m n : ℕ). rowWords (a .is2bpp) m n (now (a .«data»)) (m - 1) (a .y / 4) (a .y % 4)) (c .before .before .before .num-blocks-x .ensures) (c .before .before .num-blocks-y .ensures) in
+    (omega arith, told, row-none _ _ _ _, held-none (a .is2bpp) (across p) (down p) (now (a .«data»)) (a .y) 0 words refl)
 
--- src/row.rt:69:12
 place-of-requires : tie.Need-place-of-requires Inv-loop μ-loop
-place-of-requires c κs = ?
+place-of-requires c κs = search needs
 
--- src/row.rt:70:17
 block-of-requires : tie.Need-block-of-requires Inv-loop μ-loop
-block-of-requires c κs = ?
+block-of-requires c κs = search needs
 
--- src/row.rt:71:17
 next-words-requires : tie.Need-next-words-requires Inv-loop μ-loop
-next-words-requires c κs = ?
+next-words-requires c κs =
+    let a = c .before .before .before .before .before .before .before .before .before .before .before .before .before .before .before .before .args in
+    let p = picture (a .width) (a .height) (a .is2bpp) in
+    let l = c .before .before .before .before .before .loop in
+    let ok = accepted p (call.Row (a .y) (length (now (a .row)))) (length (now (a .«data»))) (l .inv .1) in
+    let taken = c .before .before .before .before .loop-test .taken in (
+      (c .before .before .before .before .before .before .before .before .before .before .spread-table .ensures, rw (c .before .before .before .before .before .before .before .before .before .num-blocks-x .ensures, c .before .before .before .before .before .before .before .before .num-blocks-y .ensures) (grid ok)),
+      rw (c .before .before .before .before .before .before .before .before .before .num-blocks-x .ensures, c .before .before .before .before .before .before .before .before .num-blocks-y .ensures, c .before .block-of .ensures)
+          (column-in ok (l .x) taken, row-in ok (a .y) (row-inside p (a .y) (length (now (a .row))) (ok .inside)), omega arith),
+    )
 
--- src/row.rt:72:54
 block-width-requires : tie.Need-block-width-requires Inv-loop μ-loop
-block-width-requires c κs = ?
+block-width-requires c κs = search needs
 
--- src/row.rt:72:81
 slice-aggregate-texels-in : tie.Need-slice-aggregate-texels-in Inv-loop μ-loop
-slice-aggregate-texels-in c = ?
+slice-aggregate-texels-in c = search needs
 
--- src/row.rt:72:13
 texels-in-requires : tie.Need-texels-in-requires Inv-loop μ-loop
-texels-in-requires c κs = ?
+texels-in-requires c κs =
+    let a = c .before .before .before .before .before .before .before .before .before .before .before .before .before .before .before .before .before .before .before .args in
+    let p = picture (a .width) (a .height) (a .is2bpp) in
+    let l = c .before .before .before .before .before .before .before .before .loop in
+    let ok = accepted p (call.Row (a .y) (length (now (a .row)))) (length (now (a .«data»))) (l .inv .1) in
+    let width = c .before .block-width .ensures in
+    let place = c .before .before .before .before .before .before .place-of .ensures in
+    let next = c .before .before .next-words .ensures ∙ ap₂ (λ (m n : ℕ). slid (a .is2bpp) m n (now (a .«data»)) (c .before .before .before .before .block-of .result) (a .y / 4) (a .y % 4) (l .nine)) (c .before .before .before .before .before .before .before .before .before .before .before .before .num-blocks-x .ensures) (c .before .before .before .before .before .before .before .before .before .before .before .num-blocks-y .ensures) in
+    let words = slides (a .is2bpp) (across p) (down p) (now (a .«data»)) (a .y) (l .x) (column-in ok (l .x) (c .before .before .before .before .before .before .before .loop-test .taken)) (sym place ∙ c .before .before .before .before .before .if1 .taken) (l .inv .3) (c .before .before .before .before .block-of .ensures) next in (
+      omega arith,
+      omega arith,
+      slides-read (a .is2bpp) (across p) (down p) (now (a .«data»)) (a .y) (l .x) words,
+      rw width (omega (arith, l .inv .3 .long, half-high (a .is2bpp))),
+    )
 
--- src/row.rt:75:33
+-- once the words have slid where a block begins
+held : (c : tie.Joined1 Inv-loop μ-loop)
+    → let a = c .before .before .before .before .before .before .before .before .before .before .before .before .before .before .args in let p = picture (a .width) (a .height) (a .is2bpp) in
+    Held (a .is2bpp) (across p) (down p) (now (a .«data»)) (a .y) (c .before .before .before .loop .x) (c .if1 .nine) (c .if1 .texels)
+held c =
+    let a = c .before .before .before .before .before .before .before .before .before .before .before .before .before .before .args in
+    let p = picture (a .width) (a .height) (a .is2bpp) in
+    let l = c .before .before .before .loop in
+    let ok = accepted p (call.Row (a .y) (length (now (a .row)))) (length (now (a .«data»))) (l .inv .1) in
+    let d = now (a .«data») in
+    let place = c .before .place-of .ensures in
+    ⊎-elim
+    (λ t.
+    let words = t .8 ∙ t .3 .ensures ∙ ap₂ (λ (m n : ℕ). slid (a .is2bpp) m n d (t .1 .result) (a .y / 4) (a .y % 4) (l .nine)) (c .before .before .before .before .before .before .before .num-blocks-x .ensures) (c .before .before .before .before .before .before .num-blocks-y .ensures) in
+    let texels = t .9 ∙ t .6 .ensures ∙ ap₂ (λ n (w : ℕ). withTexels (a .is2bpp) n 0 (a .y % 4) w (l .texels)) (sym (t .8)) (t .4 .ensures) in
+    held-first (a .is2bpp) (across p) (down p) d (a .y) (l .x) (column-in ok (l .x) (c .before .before .loop-test .taken)) (sym place ∙ t .0 .taken) (l .inv .3) (t .1 .ensures) words texels)
+    (λ e. rw (e .1, e .2) (held-later (a .is2bpp) (across p) (down p) d (a .y) (l .x) (λ z. e .0 .left (place ∙ z)) (l .inv .3)))
+    (c .if1 .came)
+
 known-texel-requires : tie.Need-known-texel-requires Inv-loop μ-loop
-known-texel-requires c κs = ?
+known-texel-requires c κs =
+    let a = c .before .before .before .before .before .before .before .before .before .before .before .before .before .before .before .args in
+    held-texel (a .is2bpp) _ _ (now (a .«data»)) (a .y) (c .before .before .before .before .loop .x) (held (c .before))
 
--- src/row.rt:75:25
 enum-known-word : tie.Need-enum-known-word Inv-loop μ-loop
-enum-known-word c = ?
+enum-known-word c = search needs
 
--- src/row.rt:77:37
 enum-told-3 : tie.Need-enum-told-3 Inv-loop μ-loop
-enum-told-3 c = ?
+enum-told-3 c = search needs
 
--- src/row.rt:77:13
+-- the branch of a refused texel is not reached
+unreached : tie.After-enum-told3 Inv-loop μ-loop → ⊥
+unreached c =
+    let a = c .before .before .before .before .before .before .before .before .before .before .before .before .before .before .before .before .before .before .args in
+    let p = picture (a .width) (a .height) (a .is2bpp) in
+    let l = c .before .before .before .before .before .before .before .loop in
+    let ok = accepted p (call.Row (a .y) (length (now (a .row)))) (length (now (a .«data»))) (l .inv .1) in
+    not-refused p (now (a .«data»)) (l .x) (a .y) (length (now (a .row))) ok (c .before .before .before .before .before .before .loop-test .taken) (c .before .before .known-texel .ensures) (c .enum-told3 .given .1)
+
 same-length : tie.Need-same-length Inv-loop μ-loop
-same-length c = ?
+same-length c = absurd (unreached c)
 
--- src/row.rt:77:13
 returns-2 : tie.Need-returns-2 Inv-loop μ-loop
-returns-2 c = ?
+returns-2 c = absurd (unreached c)
 
--- src/row.rt:79:9
 mul-row : tie.Need-mul-row Inv-loop μ-loop
-mul-row c = ?
+mul-row c =
+    let a = c .before .before .before .before .before .before .before .before .before .before .before .before .before .before .before .before .before .before .before .args in
+    let p = picture (a .width) (a .height) (a .is2bpp) in
+    let l = c .before .before .before .before .before .before .before .before .loop in
+    let ok = accepted p (call.Row (a .y) (length (now (a .row)))) (length (now (a .«data»))) (l .inv .1) in
+    omega (arith, width-small p (ok .small), c .before .before .before .before .before .before .before .loop-test .taken)
 
--- src/row.rt:79:9
 slice-write-row : tie.Need-slice-write-row Inv-loop μ-loop
-slice-write-row c = ?
+slice-write-row c =
+    let a = c .before .before .before .before .before .before .before .before .before .before .before .before .before .before .before .before .before .before .before .args in
+    let p = picture (a .width) (a .height) (a .is2bpp) in
+    let l = c .before .before .before .before .before .before .before .before .loop in
+    let ok = accepted p (call.Row (a .y) (length (now (a .row)))) (length (now (a .«data»))) (l .inv .1) in
+    omega (arith, l .inv .2 .len, row-roomy p (a .y) (length (now (a .row))) (ok .roomy), c .before .before .before .before .before .before .before .loop-test .taken)
 
--- src/row.rt:68:9
 add-x : tie.Need-add-x Inv-loop μ-loop
-add-x c = ?
+add-x c =
+    let a = c .before .before .before .before .before .before .before .before .before .before .before .before .before .before .before .before .before .before .before .args in
+    let p = picture (a .width) (a .height) (a .is2bpp) in
+    let l = c .before .before .before .before .before .before .before .before .loop in
+    let ok = accepted p (call.Row (a .y) (length (now (a .row)))) (length (now (a .«data»))) (l .inv .1) in
+    omega (arith, width-small p (ok .small), c .before .before .before .before .before .before .before .loop-test .taken)
 
--- src/row.rt:68:5
 loop-less : tie.Need-loop-less Inv-loop μ-loop
-loop-less c = ?
+loop-less c = omega arith
 
--- src/row.rt:68:5
 loop-again : tie.Need-loop-again Inv-loop μ-loop
-loop-again c = ?
+loop-again c =
+    let a = c .before .before .before .before .before .before .before .before .before .before .before .before .before .before .before .before .before .before .before .args in
+    let p = picture (a .width) (a .height) (a .is2bpp) in
+    let l = c .before .before .before .before .before .before .before .before .loop in
+    let ok = accepted p (call.Row (a .y) (length (now (a .row)))) (length (now (a .«data»))) (l .inv .1) in
+    let taken = c .before .before .before .before .before .before .before .loop-test .taken in
+    let its = its-word p (now (a .«data»)) (l .x) (a .y) (length (now (a .row))) ok taken (c .before .before .before .known-texel .ensures) (c .before .word .given .1) in (
+      omega (arith, taken),
+      l .inv .1,
+      next-word (l .inv .2) its taken (omega (arith, row-roomy p (a .y) (length (now (a .row))) (ok .roomy), taken)),
+      held-next (a .is2bpp) _ _ (now (a .«data»)) (a .y) (l .x) (held (c .before .before .before .before .before)),
+    )
 
--- src/row.rt:40:1
 same-length-2 : tie.Need-same-length-2 Inv-loop μ-loop
-same-length-2 c = ?
+same-length-2 c = c .before .loop .inv .2 .len
 
--- src/row.rt:40:1
 returns-3 : tie.Need-returns-3 Inv-loop μ-loop
-returns-3 c = ?
+returns-3 c =
+    let a = c .before .before .before .before .before .before .before .before .before .before .before .before .args in
+    let p = picture (a .width) (a .height) (a .is2bpp) in
+    let l = c .before .loop in
+    let all : l .x ≡ a .width = omega arith in
+    by-words (l .inv .1) (l .inv .2 .is ∙ ap (λ (n : ℕ). painted 0 (a .width) n 1 (λ x y. pictureTexel p (now (a .«data»)) x (a .y)) (now (a .row))) all)
 
 pub decode-row-spec : {M : Type 1} → statement M
 decode-row-spec =
