@@ -92,10 +92,17 @@ fn widen(c: PVRTCTexelColor) -> PVRTCTexelColorInt
 }
 
 // Colour B of a word if `second`, else A.
+fn side_of(word: PVRTCTexelInfo, second: bool) -> PVRTCTexelColor
+    ensures { λ r. ⌜ r ≡ side second word ⌝ }
+{
+    if second { word.b } else { word.a }
+}
+
+// The same, with room for sums.
 fn color_of(word: PVRTCTexelInfo, second: bool) -> PVRTCTexelColorInt
     ensures { λ r. ⌜ r ≡ widened (side second word) ⌝ }
 {
-    if second { widen(word.b) } else { widen(word.a) }
+    widen(side_of(word, second))
 }
 
 // Colour A, or B, of the three words of column i of nine, by a row of shares.
