@@ -3,7 +3,6 @@ use mathlib.Core.Path.{_≡_, refl, ap, ap₂, sym, subst}
 use mathlib.Core.Logic.{⊎-elim}
 use Prim.Native.Nat.{ℕ, zero, suc, _+_, _*_, _≤_, _<_}
 use native.Mathlib.Nat.{add-zero, add-suc, mul-le-mul-right, not-suc-le-zero, le-of-suc-le-suc, eq-or-lt-of-le}
-use native.Mathlib.Numerals.{add-one}
 use native.Mathlib.Omega.{arith}
 use Rattle.facts.specs.Sum.{sum}
 
@@ -34,11 +33,6 @@ pub sum-front : (f : ℕ → ℕ) (m n : ℕ) → sum f m ≤ sum f (m + n)
 unfolding sum
 sum-front f m zero = rw (add-zero m) (omega arith)
 sum-front f m (suc n) = rw (add-suc m n) (omega (arith, sum-front f m n))
-
--- one term more, as a loop's next number has it
-pub sum-more : (f : ℕ → ℕ) (n : ℕ) → sum f (n + 1) ≡ sum f n + f n
-unfolding sum
-sum-more f n = ap (sum f) (add-one n)
 
 -- a common factor
 pub sum-times : (f : ℕ → ℕ) (m n : ℕ) → sum (λ k. m * f k) n ≡ m * sum f n

@@ -5,7 +5,9 @@ use Prim.Native.Nat.{ℕ, zero, suc, _+_, _*_, _/_, _%_, _-_, _≤_, _<_}
 use native.Mathlib.Nat.{mul-le-mul-left}
 use native.Mathlib.Omega.{arith}
 use Rattle.facts.specs.Sum.{sum}
+use Rattle.texel.proofs.Across as texel
 use Rattle.texel.specs.Inner.{side, sumsTo}
+use Rattle.texel.specs.Summed.{shares, three}
 use Rattle.texel.specs.Texel.{Words, factor, share}
 use Rattle.lanes.specs.Column.{most}
 use Rattle.lanes.specs.Lanes.{lanes, colorLanes, shared}
@@ -66,22 +68,18 @@ unfolding sum
 sum-lanes b r g a f zero = refl
 sum-lanes b r g a f (suc n) = omega (arith, sum-lanes b r g a f n)
 
--- down first, and then across
+-- three numbers by their shares, as a texel sums them
+by-three : (h p l c r : ℕ) → shared h p l c r ≡ three (shares h p) l c r
+unfolding shared
+by-three h p l c r = omega arith
+
+-- so down first, and then across
 down-across : (h px py : ℕ) (w : ℕ → ℕ → ℕ)
     → shared h px (shared 2 py (w 0 0) (w 0 1) (w 0 2)) (shared 2 py (w 1 0) (w 1 1) (w 1 2)) (shared 2 py (w 2 0) (w 2 1) (w 2 2))
     ≡ sum (λ k. w (k % 3) (k / 3) * factor h px py k) 9
-unfolding shared sum
 down-across h px py w =
-    let x = column (share h px 0) (share 2 py 0) (share 2 py 1) (share 2 py 2) (w 0 0) (w 0 1) (w 0 2) in
-    let y = column (share h px 1) (share 2 py 0) (share 2 py 1) (share 2 py 2) (w 1 0) (w 1 1) (w 1 2) in
-    let z = column (share h px 2) (share 2 py 0) (share 2 py 1) (share 2 py 2) (w 2 0) (w 2 1) (w 2 2) in
-    rw (x, y, z) (order _ _ _ _ _ _ _ _ _)
-  where
-    column : (a b₀ b₁ b₂ u v w : ℕ) → a * (b₀ * u + b₁ * v + b₂ * w) ≡ u * (a * b₀) + v * (a * b₁) + w * (a * b₂)
-    column a b₀ b₁ b₂ u v w = omega arith
-
-    order : (a b c d e f g h i : ℕ) → (a + b + c) + (d + e + f) + (g + h + i) ≡ 0 + a + d + g + b + e + h + c + f + i
-    order a b c d e f g h i = omega arith
+    rw (by-three 2 py (w 0 0) (w 0 1) (w 0 2), by-three 2 py (w 1 0) (w 1 1) (w 1 2), by-three 2 py (w 2 0) (w 2 1) (w 2 2))
+    (by-three h px _ _ _ ∙ texel.down-across h px py w)
 
 -- the colour of one of nine words as lanes
 abbrev pub wordLanes : Words → (second : Bool) → ℕ → ℕ → ℕ

@@ -1,9 +1,8 @@
 -- Laws of the nine words about a block. Assumes nothing.
-use mathlib.Core.Path.{_≡_, refl, sym, ap, subst, _∙_}
+use mathlib.Core.Path.{_≡_, sym, ap, subst, _∙_}
 use mathlib.Core.Bool.{Bool, true, false}
 use mathlib.Core.List.{List}
 use Prim.Native.Nat.{ℕ, _+_, _*_, _/_, _%_, _-_, _≤_, _<_, min}
-use native.Mathlib.Nat.{mod-lt}
 use native.Mathlib.Omega.{arith}
 use lib.ListN.{getD, take, drop, length, length-drop}
 use lib.Seq.{take-all}
@@ -13,7 +12,7 @@ use Rattle.grid.proofs.Onto.{bijective}
 use Rattle.word.specs.Word.{Small, wordOf}
 use Rattle.word.proofs.Bounds.{small-a, small-b, weight-le}
 use Rattle.word.specs.declared.PVRTCTexelInfo.{PVRTCTexelInfo}
-use Rattle.texel.specs.Texel.{packed, texelIn, about, texelAt, wordsOf, texelWord}
+use Rattle.texel.specs.Texel.{texelIn, about, wordsOf}
 use Rattle.texel.specs.Inner.{blank, nineOf, side, nineAbout, Grid, Read}
 use Rattle.texel.specs.Needed.{addressOf}
 use Rattle.texel.proofs.Same.{texel-same}
@@ -78,11 +77,3 @@ pub of-nine : (two : Bool) (gx gy : ℕ) (d : List ℕ) (bx by px py : ℕ) → 
 of-nine two gx gy d bx by px py lx ly =
     texel-same (half two) px py (half-low two) lx ly (nineOf (nineAbout two gx gy d bx by)) (about gx gy (wordsOf two gx gy d) bx by)
     (λ i j a b. by-place two gx gy d bx by i j (a .0) (b .0))
-
--- so the texel (x, y), from the nine words about its block
-pub at-place : (two : Bool) (gx gy : ℕ) (d : List ℕ) (x y : ℕ) {w r : ℕ} {nine : List PVRTCTexelInfo} → w ≡ blockWidth two
-    → nine ≡ nineAbout two gx gy d (x / w) (y / 4) → r ≡ packed (texelIn (half two) (nineOf nine) (x % w) (y % 4)) → r ≡ texelWord two gx gy d x y
-unfolding texelAt
-at-place two gx gy d x y ew en er =
-    let wide : 0 < blockWidth two = omega (arith, half-low two) in
-    er ∙ rw (en, ew) (ap packed (of-nine two gx gy d (x / blockWidth two) (y / 4) (x % blockWidth two) (y % 4) (mod-lt x wide) (omega arith)))

@@ -1,18 +1,11 @@
 -- Laws of shares. Assumes nothing.
-use mathlib.Core.Path.{_≡_, refl, ap, sym, _∙_}
+use mathlib.Core.Path.{_≡_, _∙_}
 use mathlib.Core.Bool.{Bool, true, false}
-use mathlib.Core.List.{List, []}
 use Prim.Native.Nat.{ℕ, zero, suc, _+_, _-_, _*_, _/_, _%_, _≤_, _<_}
-use native.Mathlib.Nat.{mul-le-mul}
 use native.Mathlib.Omega.{arith}
-use lib.Dec.{T, eqb, eqb→eq}
-use lib.ListN.{getD}
-use Rattle.facts.specs.Finite.{allBelow}
 use Rattle.facts.specs.Sum.{sum}
-use Rattle.facts.proofs.Finite.{below₂}
-use Rattle.grid.specs.Grid.{half, blockWidth}
+use Rattle.grid.specs.Grid.{half}
 use Rattle.texel.specs.Texel.{share, factor}
-use Rattle.texel.specs.Inner.{Place}
 
 -- half a block is two texels at least, and four at most
 pub half-low : (two : Bool) → 2 ≤ half two
@@ -22,12 +15,6 @@ half-low false = omega arith
 pub half-high : (two : Bool) → half two ≤ 4
 half-high true = omega arith
 half-high false = omega arith
-
--- a table whose every entry passes the test has the shares as its rows
-pub rows : (h n : ℕ) (table : List (List ℕ)) → T (allBelow (λ p. allBelow (λ k. eqb (getD (getD table p []) k 0) (share h p k)) 3) n)
-    → (p k : ℕ) → p < n → k < 3 → getD (getD table p []) k 0 ≡ share h p k
-rows h n table t p k hp hk =
-    eqb→eq (getD (getD table p []) k 0) (share h p k) (below₂ (λ p k. eqb (getD (getD table p []) k 0) (share h p k)) n 3 t p k hp hk)
 
 -- no share is more than all of them
 pub share-le : (h p k : ℕ) → p < 2 * h → share h p k ≤ 2 * h
@@ -41,9 +28,6 @@ pub share-total : (h p : ℕ) → p < 2 * h → share h p 0 + share h p 1 + shar
 unfolding share
 share-total h p l = omega arith
 
-pub factor-le : (h px py k : ℕ) → px < 2 * h → py < 4 → factor h px py k ≤ 8 * h
-factor-le h px py k hx hy = omega (arith, mul-le-mul (share-le h px (k % 3) hx) (share-le 2 py (k / 3) hy))
-
 products : (a₀ a₁ a₂ b₀ b₁ b₂ : ℕ)
     → 0 + a₀ * b₀ + a₁ * b₀ + a₂ * b₀ + a₀ * b₁ + a₁ * b₁ + a₂ * b₁ + a₀ * b₂ + a₁ * b₂ + a₂ * b₂ ≡ (a₀ + a₁ + a₂) * (b₀ + b₁ + b₂)
 products a₀ a₁ a₂ b₀ b₁ b₂ = omega arith
@@ -54,6 +38,3 @@ unfolding sum
 factor-total h px py hx hy =
     products (share h px 0) (share h px 1) (share h px 2) (share 2 py 0) (share 2 py 1) (share 2 py 2)
     ∙ rw (share-total h px hx, share-total 2 py hy) (omega arith)
-
-pub factor-small : (two : Bool) (px py k : ℕ) → Place two px py → factor (half two) px py k ≤ 32
-factor-small two px py k p = omega (arith, factor-le (half two) px py k (p .across) (p .down), half-high two)
