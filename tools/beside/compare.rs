@@ -1,8 +1,8 @@
 // Compares the calls of include/plate.h with the Rust original: refusals, texels, and the lent words that were not to be written.
 //
 // Our calls are lent memory that ends where a page may not be touched, with words before it that must stay. A picture is decoded by both;
-// one of its rows and one of its texels are then asked for by the other calls. Where the original is no oracle (document 01's domain),
-// the answer is held to document 01's table of refusals.
+// its rows, or one row if it is large, and a texel of each are then asked for by the other calls. Where the original is no oracle
+// (document 01's domain), the answer is held to document 01's table of refusals.
 
 extern crate color;
 
@@ -15,6 +15,9 @@ use guarded::Guarded;
 
 // Words before a lent buffer that must stay.
 const BEFORE: usize = 64;
+
+// A picture of more texels is asked for one row, and a smaller one for all.
+const LARGE: usize = 4096;
 
 // The room that the program lends.
 const WORDS: usize = 131072;
@@ -109,7 +112,7 @@ impl Comparison {
         }
     }
 
-    // One picture of `data`, into `room` lent words, and a row and a texel of it.
+    // One picture of `data`, into `room` lent words, with its rows and some of its texels.
     pub fn picture(&mut self, data: &[u8], s: Shape, room: usize) {
         self.cases += 1;
         self.theirs.clear();
@@ -131,16 +134,21 @@ impl Comparison {
         }
         if expected == 0 {
             self.texels += w * h;
-            self.row_and_texel(at, data.len(), s);
+            if s.width * s.height > LARGE {
+                let y = self.draw() as usize % s.height;
+                self.row_and_texel(at, data.len(), s, y);
+            } else {
+                (0..s.height).for_each(|y| self.row_and_texel(at, data.len(), s, y));
+            }
         } else {
             self.refused += 1;
         }
     }
 
-    // A row and a texel of the picture in `theirs`.
-    fn row_and_texel(&mut self, at: *const u8, len: usize, s: Shape) {
+    // Row y of the picture in `theirs`, and a texel of it.
+    fn row_and_texel(&mut self, at: *const u8, len: usize, s: Shape, y: usize) {
         let (w, h, depth) = (s.width as u64, s.height as u64, s.is2bpp as u32);
-        let (x, y, more) = (self.draw() as usize % s.width, self.draw() as usize % s.height, self.draw() as usize % 3);
+        let (x, more) = (self.draw() as usize % s.width, self.draw() as usize % 3);
         let room = s.width + more;
         let lent = self.row.words(BEFORE + room);
         (0..BEFORE + room).for_each(|i| lent[i] = old_word(i.wrapping_sub(BEFORE)));
