@@ -1,6 +1,6 @@
 -- What the program's limits say, and what is known of a plate that keeps them. Assumes nothing.
-use mathlib.Core.Path.{_≡_, refl, ap, _∙_}
-use mathlib.Core.Bool.{Bool, true, false, cond, _||_}
+use mathlib.Core.Path.{_≡_, ap, _∙_}
+use mathlib.Core.Bool.{Bool, true, false, cond}
 use Prim.Native.Nat.{ℕ, _*_, _≤_, _<_}
 use native.Mathlib.Nat.{mul-le-mul, mul-le-mul-left}
 use native.Mathlib.Omega.{arith}
@@ -9,6 +9,7 @@ use borrow.Author.Tests.{ltb-false, le-ltb}
 use Rattle.facts.specs.Checks.{firstOf, at}
 use Rattle.facts.proofs.Checks.{none-holds, first-append}
 use Rattle.facts.proofs.Finite.{below}
+use Rattle.facts.proofs.Or.{or-left, or-right}
 use Rattle.grid.specs.Grid.{blockWidth}
 use Rattle.grid.proofs.Counts.{blocks-le, blocks-cover}
 use Rattle.pvrtc.specs.declared.Call.the-variants as call
@@ -17,15 +18,6 @@ use Rattle.pvrtc.specs.Refusals.{across, down, need, zeroSide, largeSide, short
 use Rattle.pvrtc.proofs.Accepted.{wide}
 use Rattle.convert.specs.Inner.{limitChecks, dataChecks, TgaFits}
 use Rattle.convert.specs.Output.{longMetadata, longSide, largeNeed, ownChecks, Room}
-
--- where neither of two tests holds, the first does not, and the second does not
-or-left : (a b : Bool) → (a || b) ≡ false → a ≡ false
-or-left true b e = e
-or-left false b e = refl
-
-or-right : (a b : Bool) → (a || b) ≡ false → b ≡ false
-or-right true b e = let z : true ≡ false = e in cc
-or-right false b e = e
 
 -- a number that is not above 0 is 0
 pub says-none : {n m : ℕ} → n ≡ m → n ≤ 0 → m ≡ 0

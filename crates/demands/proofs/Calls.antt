@@ -1,26 +1,23 @@
 -- Demands 2 and 3 over what the calls promise. Assumes nothing.
-use mathlib.Core.Path.{_≡_, refl, sym, ap, _∙_}
-use mathlib.Core.Bool.{Bool, true, false}
+use mathlib.Core.Path.{_≡_, refl, sym, _∙_}
+use mathlib.Core.Bool.{false}
 use mathlib.Core.List.{List, List·Memᴰ}
-use Prim.Native.Nat.{ℕ, _+_, _*_, _/_, _%_, _≤_, _<_}
+use Prim.Native.Nat.{ℕ, _*_, _/_, _%_, _<_}
 use native.Mathlib.Nat.{mod-lt}
 use native.Mathlib.Omega.{arith}
-use lib.ListN.{length, getD}
-use borrow.Author.Tests.{le-ltb, not-false}
+use lib.ListN.{length}
+use borrow.Author.Tests.{le-ltb}
 use Rattle.grid.specs.Grid.{half, blockWidth}
-use Rattle.grid.proofs.Powers.{is-power}
 use Rattle.khronos.specs.Agrees.{Bytes}
 use Rattle.khronos.proofs.IsKhronos.{words-agree}
 use Rattle.texel.proofs.Same.{held}
 use Rattle.texel.proofs.Shares.{half-low}
-use Rattle.pvrtc.specs.Calls.{refusal, pictureTexel, TexelRead, RowDecoded, BlockDecoded}
+use Rattle.pvrtc.specs.Calls.{refusal, pictureTexel}
 use Rattle.pvrtc.specs.Refusals.{across, down, need, zeroSide, largeSide, notPower}
 use Rattle.pvrtc.specs.declared.Call.{Call}
 use Rattle.pvrtc.specs.declared.Call.the-variants as call
-use Rattle.pvrtc.specs.declared.Decoded.the-variants.{Done}
 use Rattle.pvrtc.specs.declared.Picture.{Picture}
-use Rattle.pvrtc.specs.declared.Texel.the-variants.{Word}
-use Rattle.pvrtc.proofs.Accepted.{Accepted, accepted, grid, column-in, row-in, texel-inside, row-inside, inside-accepted, power-across, power-down}
+use Rattle.pvrtc.proofs.Accepted.{Accepted, accepted, column-in, row-in, texel-inside, row-inside, inside-accepted, power-across, power-down}
 use Rattle.pvrtc.proofs.Agree.{row-is, block-is}
 use Rattle.demands.specs.Demands.{khronosWord, Right, Shown, Near, footprintOf}
 use Rattle.demands.specs.Local.{Local}

@@ -1,10 +1,8 @@
 -- Demand 1: one outcome for each call, and no idling. The numbers are computed. Assumes nothing.
-use mathlib.Core.Path.{_≡_, refl, sym, ap, _∙_}
-use mathlib.Core.Bool.{true, false}
+use mathlib.Core.Path.{_≡_, refl, sym, _∙_}
 use mathlib.Core.List.{List}
-use Prim.Native.Nat.{ℕ, _+_, _*_, _%_, _<_}
+use Prim.Native.Nat.{ℕ}
 use native.Mathlib.Omega.{arith}
-use lib.ListN.{getD, replicate}
 use Rattle.facts.specs.Bits.{flags}
 use Rattle.facts.specs.Checks.{firstOf}
 use Rattle.facts.specs.Sum.{sum}

@@ -1,6 +1,6 @@
 -- The three demands, over what the calls promise. Assumes nothing: these are definitions.
 use mathlib.Core.Path.{_≡_}
-use mathlib.Core.Bool.{Bool, true, false}
+use mathlib.Core.Bool.{false}
 use mathlib.Core.List.{List, [], _∷_, List·Memᴰ}
 use Prim.Native.Nat.{ℕ, _+_, _*_, _/_, _%_, _≤_, _<_}
 use lib.ListN.{length, getD, replicate}
@@ -8,7 +8,7 @@ use Rattle.grid.specs.Grid.{blockWidth, blockAddress, beside}
 use Rattle.khronos.specs.Agrees.{Bytes, run, word32}
 use Rattle.khronos.specs.Khronos.{word64, khronosTexel}
 use Rattle.pvrtc.specs.Calls.{picture, refusal, TexelRead, RowDecoded, BlockDecoded}
-use Rattle.pvrtc.specs.Refusals.{across, down, texelNumber, texelValue, decodedNumber}
+use Rattle.pvrtc.specs.Refusals.{across, down, texelNumber, decodedNumber}
 use Rattle.pvrtc.specs.declared.Call.the-variants as call
 use Rattle.pvrtc.specs.declared.Decoded.{Decoded}
 use Rattle.pvrtc.specs.declared.Decoded.the-variants.{Done}

@@ -3,6 +3,7 @@ pub mod Checks
 pub mod Finite
 pub mod Lists
 pub mod Numbers
+pub mod Or
 pub mod Order
 pub mod Powers
 pub mod Sum

@@ -1,6 +1,6 @@
 -- Laws of powers of two. Assumes nothing.
 use mathlib.Core.Path.{_≡_, refl, sym, ap, _∙_}
-use Prim.Native.Nat.{ℕ, zero, suc, _+_, _-_, _*_, _/_, _%_, _^_, _≤_, _<_}
+use Prim.Native.Nat.{ℕ, zero, suc, _+_, _-_, _*_, _/_, _^_, _≤_, _<_}
 use native.Mathlib.Nat.{not-le-of-lt, div-div-eq-div-mul, pow-succ'}
 use native.Mathlib.Omega.{arith}
 use lib.Pow.{pow-lt, pow-add}

@@ -1,5 +1,5 @@
 -- Laws of the number of blocks along a side, over the size of a block. Assumes nothing.
-use mathlib.Core.Path.{_≡_, sym, ap}
+use mathlib.Core.Path.{_≡_, sym}
 use mathlib.Core.Logic.{⊎-elim}
 use Prim.Native.Nat.{ℕ, _+_, _-_, _*_, _/_, _%_, _≤_, _<_}
 use native.Mathlib.Nat.{div-add-mod', div-lt-iff-lt-mul, div-mul-le-self, lt-div-mul-add, mul-le-mul-right, mul-le-mul-left, mod-lt}

@@ -1,12 +1,12 @@
 -- Laws of powers of two and their logarithms. Assumes nothing.
 use mathlib.Core.Path.{_≡_, refl, sym, ap, ap₂, _∙_}
-use mathlib.Core.Bool.{Bool, true, false}
+use mathlib.Core.Bool.{true}
 use mathlib.Core.Logic.{⊎-elim}
 use Prim.Native.Nat.{ℕ, zero, suc, _+_, _-_, _*_, _/_, _%_, _^_, _≤_, _<_, min}
 use native.Mathlib.Nat.{eq-or-lt-of-le, mod-self}
 use native.Mathlib.Omega.{arith}
 use lib.Bits.{bitAnd, and-mask, and-block}
-use lib.Dec.{eqb, ltb}
+use lib.Dec.{eqb}
 use lib.Pow.{pow-pos}
 use borrow.Author.Tests.{eqb-true, le-ltb, lt-ltb, eq-eqb, ne-eqb}
 use Rattle.facts.proofs.Numbers.{lt-or-le}

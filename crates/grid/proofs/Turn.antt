@@ -1,9 +1,8 @@
 -- What the loop of `morton_index` keeps, and what it comes to. Assumes nothing.
-use mathlib.Core.Path.{_≡_, refl, sym, ap, ap₂, _∙_}
+use mathlib.Core.Path.{_≡_, refl, sym, ap, _∙_}
 use mathlib.Core.Logic.{⊎-elim}
 use Prim.Native.Nat.{ℕ, zero, suc, _+_, _-_, _*_, _/_, _%_, _^_, _≤_, _<_, min}
-use native.Mathlib.Nat.{div-one, pow-succ', mul-le-mul-right, div-eq-of-lt, div-le-self, add-zero}
-use native.Mathlib.Numerals.{add-one}
+use native.Mathlib.Nat.{div-one, pow-succ', mul-le-mul-right, div-eq-of-lt, add-zero}
 use native.Mathlib.Omega.{arith}
 use lib.Bits.{bitAnd, bitOr, and-high, or-shifted-r, or-shr, or-zero-l, or-zero-r}
 use lib.Pow.{pow-pos, pow-lt, pow-add, shl-exact, shr-le, shr-shr}

@@ -1,6 +1,6 @@
 -- A place of the three by three blocks about a texel, as a place round the picture. Assumes nothing.
 use mathlib.Core.Path.{_≡_, sym, ap, _∙_}
-use Prim.Native.Nat.{ℕ, _+_, _-_, _*_, _/_, _%_, _≤_, _<_}
+use Prim.Native.Nat.{ℕ, _+_, _-_, _*_, _/_, _%_, _<_}
 use native.Mathlib.Nat.{mod-lt, div-add-mod', mul-pos, add-mul-mod-self-right}
 use native.Mathlib.Omega.{arith}
 use Rattle.facts.proofs.Numbers.{split}

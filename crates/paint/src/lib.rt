@@ -1,6 +1,6 @@
 // Words laid into lent words: a block of a picture, cut to the picture's sides.
 ghost use mathlib.Core.Path.{_≡_};
-ghost use Prim.Native.Nat.{ℕ, _+_, _-_, _*_, _≤_, min};
+ghost use Prim.Native.Nat.{_+_, _-_, _*_, _≤_, min};
 ghost use lib.ListN.{length, getD};
 ghost use Rattle.paint.specs.Paint.{painted, Fits};
 

@@ -1,15 +1,15 @@
 -- What is known of a picture that a call accepts. Assumes nothing.
 use mathlib.Core.Path.{_≡_, refl, sym}
-use mathlib.Core.Bool.{Bool, true, false, not, _||_}
-use Prim.Native.Nat.{ℕ, _+_, _*_, _/_, _≤_, _<_}
-use native.Mathlib.Nat.{mul-le-mul}
+use mathlib.Core.Bool.{Bool, false, not}
+use Prim.Native.Nat.{ℕ, _*_, _/_, _≤_, _<_}
 use native.Mathlib.Omega.{arith}
-use lib.Dec.{T, eqb, ltb, leb, ltb→lt}
-use lib.ListN.{length}
+use lib.Dec.{eqb, ltb, leb, ltb→lt}
 use borrow.Author.Tests.{eqb-false, ltb-false, leb-false, lt-leb, not-false}
 use Rattle.facts.specs.Checks.{firstOf, at}
 use Rattle.facts.proofs.Checks.{none-holds}
 use Rattle.facts.proofs.Finite.{below}
+use Rattle.facts.proofs.Or.{or-left, or-right}
+use Rattle.facts.proofs.Order.{holds-later, none-left}
 use Rattle.grid.specs.Grid.{blockWidth, Power, isPower}
 use Rattle.grid.proofs.Counts.{blocks-le, block-below}
 use Rattle.grid.proofs.Powers.{is-power}
@@ -18,26 +18,7 @@ use Rattle.texel.proofs.Shares.{half-low}
 use Rattle.pvrtc.specs.declared.Call.{Call}
 use Rattle.pvrtc.specs.declared.Call.the-variants as call
 use Rattle.pvrtc.specs.declared.Picture.{Picture}
-use Rattle.facts.proofs.Order.{holds-later, none-left}
 use Rattle.pvrtc.specs.Refusals.{across, down, need, zeroSide, largeSide, shortData, shortImage, notPower, outside, checks}
-
--- where neither of two tests holds, the first does not, and the second does not
-or-left : (a b : Bool) → (a || b) ≡ false → a ≡ false
-or-left true b e = e
-or-left false b e = refl
-
-or-right : (a b : Bool) → (a || b) ≡ false → b ≡ false
-or-right true b e = let z : true ≡ false = e in cc
-or-right false b e = e
-
--- where the first of two tests holds it is the answer, else the second is
-pub or-taken : (a b : Bool) → a ≡ true → a ≡ (a || b)
-or-taken true b e = refl
-or-taken false b e = let z : false ≡ true = e in cc
-
-pub or-passed : (a b : Bool) → a ≡ false → b ≡ (a || b)
-or-passed true b e = let z : true ≡ false = e in cc
-or-passed false b e = refl
 
 -- no condition of a refusal holds
 pub record Accepted (p : Picture) (c : Call) (len : ℕ) : Type 0 where

@@ -1,11 +1,11 @@
 -- What the block call's loops need: a block's words are the picture's texels, and blocks make rows, and rows the picture. Assumes nothing.
-use mathlib.Core.Path.{_≡_, refl, sym, ap, ap₂, _∙_}
+use mathlib.Core.Path.{_≡_, refl, ap, ap₂, _∙_}
 use mathlib.Core.Bool.{Bool}
-use mathlib.Core.List.{List, _++_}
-use Prim.Native.Nat.{ℕ, _+_, _-_, _*_, _/_, _%_, _≤_, _<_, min}
+use mathlib.Core.List.{List}
+use Prim.Native.Nat.{ℕ, _+_, _-_, _*_, _≤_, _<_, min}
 use native.Mathlib.Nat.{mul-le-mul-right, zero-add}
 use native.Mathlib.Omega.{arith}
-use lib.ListN.{length, getD, drop}
+use lib.ListN.{length, getD}
 use Rattle.facts.proofs.Numbers.{split}
 use Rattle.facts.proofs.Tab.{tab-front}
 use Rattle.grid.specs.Grid.{half, blockWidth}
@@ -13,10 +13,10 @@ use Rattle.grid.proofs.Counts.{block-start, blocks-cover}
 use Rattle.paint.specs.Paint.{painted, Fits}
 use Rattle.paint.proofs.Laid.{Part, part-none, part-empty, columns-part, rows-part}
 use Rattle.paint.proofs.Painted.{painted-same}
-use Rattle.texel.specs.Inner.{nineOf, nineAbout, Read}
+use Rattle.texel.specs.Inner.{nineOf, nineAbout}
 use Rattle.texel.specs.Texel.{packed, texelIn, texelAt, texelWord}
-use Rattle.texel.proofs.Nine.{of-nine, read}
-use Rattle.texel.proofs.Shares.{half-low, half-high}
+use Rattle.texel.proofs.Nine.{of-nine}
+use Rattle.texel.proofs.Shares.{half-high}
 use Rattle.word.specs.declared.PVRTCTexelInfo.{PVRTCTexelInfo}
 use Rattle.pvrtc.specs.declared.Call.the-variants as call
 use Rattle.pvrtc.specs.declared.Picture.{Picture}

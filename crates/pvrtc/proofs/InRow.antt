@@ -1,9 +1,9 @@
 -- What the loop of the row call keeps and needs. Assumes nothing.
-use mathlib.Core.Path.{_≡_, refl, sym, ap, _∙_}
+use mathlib.Core.Path.{_≡_, sym, ap, _∙_}
 use mathlib.Core.Bool.{Bool, true, false, cond}
 use mathlib.Core.List.{List}
 use mathlib.Core.Logic.{⊎-elim}
-use Prim.Native.Nat.{ℕ, _+_, _-_, _*_, _/_, _%_, _≤_, _<_}
+use Prim.Native.Nat.{ℕ, _+_, _-_, _/_, _%_, _≤_, _<_}
 use native.Mathlib.Nat.{zero-add, zero-mod, zero-div, mod-lt, mod-self, mod-eq-of-lt, add-mod-right, eq-zero-or-pos}
 use native.Mathlib.Omega.{arith}
 use lib.Dec.{eqb}
@@ -25,7 +25,7 @@ use Rattle.pvrtc.specs.declared.Picture.{Picture}
 use Rattle.pvrtc.specs.declared.Refusal.{Refusal}
 use Rattle.pvrtc.specs.declared.Texel.{Texel}
 use Rattle.pvrtc.specs.declared.Texel.the-variants as texel
-use Rattle.pvrtc.specs.Calls.{refusal, pictureTexel, TexelRead}
+use Rattle.pvrtc.specs.Calls.{pictureTexel, TexelRead}
 use Rattle.pvrtc.specs.Refusals.{texelNumber, texelValue}
 use Rattle.pvrtc.proofs.Accepted.{Accepted, wide}
 use Rattle.pvrtc.proofs.Accepted as accepted

@@ -1,15 +1,12 @@
 -- Data past the need has no effect. Assumes nothing.
-use mathlib.Core.Path.{_≡_, refl, sym, ap, ap₂, _∙_}
-use mathlib.Core.Bool.{Bool, true, false, cond}
+use mathlib.Core.Path.{_≡_, sym, ap, _∙_}
+use mathlib.Core.Bool.{Bool, false}
 use mathlib.Core.List.{List, _++_}
-use mathlib.Core.Logic.{⊎-elim}
 use Prim.Native.Nat.{ℕ, _+_, _*_, _/_, _≤_, _<_}
 use native.Mathlib.Omega.{arith}
-use lib.Dec.{ltb, eqb}
 use lib.ListN.{length, getD, drop, length-append, List·getD-append}
 use lib.Seq.{getD-drop}
 use borrow.Author.Tests.{le-ltb}
-use Rattle.facts.specs.Checks.{firstOf}
 use Rattle.grid.specs.Grid.{half, blockWidth, Power, blockAddress, beside}
 use Rattle.grid.proofs.Onto.{bijective}
 use Rattle.grid.proofs.Powers.{power-above}
@@ -21,7 +18,7 @@ use Rattle.word.proofs.Same.{word-same}
 use Rattle.pvrtc.specs.declared.Call.{Call}
 use Rattle.pvrtc.specs.declared.Picture.{Picture}
 use Rattle.pvrtc.specs.Calls.{refusal, pictureTexel}
-use Rattle.pvrtc.specs.Refusals.{across, down, need, shortData, shortImage, outside, checks}
+use Rattle.pvrtc.specs.Refusals.{across, down, need, shortData}
 use Rattle.pvrtc.proofs.Accepted.{accepted, grid}
 
 -- a word of the grid's blocks is the same where more bytes follow

@@ -10,7 +10,6 @@ pub use block::decode_pvrtc_4bpp;
 pub use block::decode_pvrtc_plain;
 pub use check::refusal_number;
 pub use row::decode_row;
-ghost use mathlib.Core.Path.{_≡_};
 ghost use Rattle.pvrtc.specs.Calls.{picture, TexelRead};
 use check::check;
 

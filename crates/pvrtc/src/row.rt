@@ -6,7 +6,7 @@ use crate::Refusal;
 use crate::Texel;
 use crate::check::check;
 ghost use mathlib.Core.Path.{_≡_};
-ghost use Prim.Native.Nat.{ℕ, _/_, _%_};
+ghost use Prim.Native.Nat.{_/_, _%_};
 ghost use lib.ListN.{getD};
 ghost use Rattle.grid.specs.Grid.{blockWidth};
 ghost use Rattle.pvrtc.specs.Calls.{picture, pictureTexel, TexelRead, RowDecoded};

@@ -1,5 +1,5 @@
 -- Laws of scaling and of the blend. Assumes nothing.
-use mathlib.Core.Path.{_≡_, refl, ap, sym, _∙_}
+use mathlib.Core.Path.{_≡_, ap}
 use mathlib.Core.Bool.{Bool, true, false, cond}
 use mathlib.Core.Logic.{⊎-elim}
 use Prim.Native.Nat.{ℕ, _+_, _-_, _*_, _/_, _≤_, _<_, min, max}
@@ -8,7 +8,7 @@ use native.Mathlib.Omega.{arith}
 use Rattle.facts.proofs.Numbers.{lt-or-le}
 use Rattle.grid.specs.Grid.{half}
 use Rattle.texel.specs.declared.PVRTCTexelColorInt.{PVRTCTexelColorInt}
-use Rattle.texel.specs.Texel.{scaleColor, scaleAlpha, blended, Pixel, packed, blend}
+use Rattle.texel.specs.Texel.{scaleColor, scaleAlpha, blended, packed, blend}
 use Rattle.texel.specs.Inner.{toBytes, pixel, Low, Bytes}
 
 -- eight parts in all, of a and of b

@@ -6,7 +6,7 @@ use Prim.Native.Nat.{ℕ, zero, suc, _+_, _-_, _*_, _/_, _%_, _≤_, _<_}
 use native.Mathlib.Nat.{mod-lt, mul-le-mul, one-mul, not-suc-le-zero}
 use native.Mathlib.Omega.{arith}
 use lib.Dec.{eqb}
-use lib.ListN.{getD, drop, replicate, getD-replicate}
+use lib.ListN.{getD, drop, getD-replicate}
 use borrow.Author.Tests.{ne-eqb}
 use Rattle.facts.proofs.Tab.{getD-tab}
 use Rattle.facts.specs.Tab.{tab}

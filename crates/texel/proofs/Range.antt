@@ -5,16 +5,13 @@ use mathlib.Core.List.{List}
 use Prim.Native.Nat.{ℕ, _+_, _-_, _*_, _/_, _%_, _^_, _≤_, _<_, min, max}
 use native.Mathlib.Nat.{mod-lt}
 use native.Mathlib.Omega.{arith}
-use lib.ListN.{getD}
 use Rattle.grid.specs.Grid.{half, blockWidth, beside}
 use Rattle.word.specs.Word.{wordOf}
 use Rattle.word.proofs.Bounds.{weight-le}
 use Rattle.word.specs.declared.Fill.{Fill}
 use Rattle.word.specs.declared.Fill.the-variants.{Nothing, Around, AboveBelow, LeftRight}
-use Rattle.word.specs.declared.PVRTCTexelColor.{PVRTCTexelColor}
-use Rattle.word.specs.declared.PVRTCTexelInfo.{PVRTCTexelInfo}
-use Rattle.texel.specs.Texel.{Words, nineSum, blended, Pixel, packed, scaled, blend, near, filled, ruleAt, punched, mixed, texelIn, about, texelAt}
-use Rattle.texel.specs.Inner.{side, sumsTo, toBytes, pixel, Bytes}
+use Rattle.texel.specs.Texel.{Words, nineSum, blended, Pixel, packed, blend, near, filled, ruleAt, punched, mixed, texelIn, texelAt}
+use Rattle.texel.specs.Inner.{sumsTo, toBytes, pixel, Bytes}
 use Rattle.texel.proofs.Blend.{between, bytes, word-below}
 use Rattle.texel.proofs.Nine.{small-side}
 use Rattle.texel.proofs.Shares.{half-low}

@@ -1,5 +1,5 @@
 -- A texel depends on the words that have a share at its place, and on no others. Assumes nothing.
-use mathlib.Core.Path.{_≡_, refl, sym, ap, _∙_}
+use mathlib.Core.Path.{_≡_, ap}
 use mathlib.Core.Logic.{⊎-elim}
 use Prim.Native.Nat.{ℕ, _+_, _-_, _*_, _/_, _%_, _≤_, _<_}
 use native.Mathlib.Nat.{div-eq-of-lt-le, eq-zero-or-pos, mod-lt}
@@ -7,7 +7,6 @@ use native.Mathlib.Omega.{arith}
 use lib.ListN.{getD}
 use Rattle.facts.proofs.Numbers.{lt-or-le}
 use Rattle.facts.proofs.Sum.{sum-same}
-use Rattle.grid.specs.Grid.{beside}
 use Rattle.word.specs.declared.Fill.{Fill}
 use Rattle.word.specs.declared.Fill.the-variants.{Nothing, Around, AboveBelow, LeftRight}
 use Rattle.word.specs.declared.PVRTCTexelInfo.{PVRTCTexelInfo}

@@ -6,7 +6,7 @@ use Prim.Native.Nat.{ℕ, _+_, _*_, _/_, _%_, _≤_, _<_}
 use lib.ListN.{getD}
 use Rattle.facts.specs.Sum.{sum}
 use Rattle.facts.specs.Tab.{tab}
-use Rattle.grid.specs.Grid.{half, blockWidth, Power, beside}
+use Rattle.grid.specs.Grid.{blockWidth, Power}
 use Rattle.word.specs.Word.{Small}
 use Rattle.word.specs.declared.Fill.the-variants.{Nothing}
 use Rattle.word.specs.declared.PVRTCTexelColor.{PVRTCTexelColor}

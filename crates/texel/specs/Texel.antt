@@ -1,7 +1,7 @@
 -- One texel of a picture, as document 01 says it ("One texel"), at both depths: h is half the width of a block, 2 at 4bpp and 4 at
 -- 2bpp, so a block is 2h texels across and 4 down. Assumes nothing: these are definitions.
-use mathlib.Core.Bool.{Bool, true, false, cond}
-use mathlib.Core.List.{List, []}
+use mathlib.Core.Bool.{Bool, cond}
+use mathlib.Core.List.{List}
 use Prim.Native.Nat.{ℕ, zero, suc, _+_, _-_, _*_, _/_, _%_}
 use lib.Dec.{eqb}
 use lib.ListN.{getD, drop}

@@ -7,7 +7,7 @@ use crate::weights::weights_in;
 use crate::words::needed_words;
 use crate::words::word_if;
 ghost use mathlib.Core.Path.{_≡_};
-ghost use Prim.Native.Nat.{ℕ, _+_, _*_, _≤_, _<_};
+ghost use Prim.Native.Nat.{_+_, _≤_, _<_};
 ghost use lib.ListN.{length};
 ghost use Rattle.grid.specs.Grid.{blockWidth, spreadTable};
 ghost use Rattle.texel.specs.Inner.{Grid, Read};

@@ -1,6 +1,6 @@
 // The weight of a texel, filled from its neighbours where its block holds none for it.
 ghost use mathlib.Core.Path.{_≡_};
-ghost use Prim.Native.Nat.{ℕ, _+_, _*_, _/_, _%_, _≤_, _<_};
+ghost use Prim.Native.Nat.{_+_, _*_, _/_, _%_, _≤_, _<_};
 ghost use Rattle.facts.specs.Bits.{isSet};
 ghost use Rattle.grid.specs.Grid.{half, blockWidth};
 ghost use Rattle.texel.specs.Texel as spec;

@@ -4,7 +4,7 @@ use crate::summing::shares_across;
 use crate::summing::wide_shares;
 use crate::texel_in;
 ghost use mathlib.Core.Path.{_≡_};
-ghost use Prim.Native.Nat.{ℕ, _+_, _*_, _/_, _<_, _≤_, min};
+ghost use Prim.Native.Nat.{_*_, _/_, _<_, _≤_, min};
 ghost use lib.ListN.{length, drop};
 ghost use Rattle.grid.specs.Grid.{blockWidth, Power, beside, spreadTable};
 ghost use Rattle.word.specs.Word.{wordOf};

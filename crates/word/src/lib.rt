@@ -6,7 +6,7 @@ mod weights;
 pub use weights::get_texel_weights_2bpp;
 pub use weights::get_texel_weights_4bpp;
 ghost use mathlib.Core.Path.{_≡_};
-ghost use Prim.Native.Nat.{ℕ, _+_, _*_, _<_};
+ghost use Prim.Native.Nat.{_+_, _*_, _<_};
 ghost use lib.ListN.{getD};
 ghost use Rattle.word.specs.Word.{blueA, blueB, colorOf, withColors, unread, wordOf};
 

@@ -4,7 +4,7 @@ use crate::PVRTCTexelInfo;
 use crate::byte_at;
 ghost use mathlib.Core.Path.{_≡_};
 ghost use mathlib.Core.Bool.{cond};
-ghost use Prim.Native.Nat.{ℕ, _+_, _*_, _^_, _<_, _≤_};
+ghost use Prim.Native.Nat.{_+_, _*_, _^_, _<_};
 ghost use lib.ListN.{getD};
 ghost use Rattle.word.specs.Word as spec;
 ghost use Rattle.word.specs.Word.{code, standardWeights, punchThroughWeights, punch4, withWeights4, stored2, weight2, fill2, withWeights2};

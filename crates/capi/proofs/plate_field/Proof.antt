@@ -1,4 +1,3 @@
-use native.Mathlib.Omega.{arith}
 use mathlib.Core.Path.{refl}
 use Rattle.capi.proofs.Answers.{width-1, height-2, bits-3, payload-4, no-other}
 use Rattle.pvr.specs.Header.{bitsOf}

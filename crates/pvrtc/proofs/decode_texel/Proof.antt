@@ -1,5 +1,5 @@
 -- `pvrtc::decode_texel` meets its contract: a picture that passes the checks has the texel, and a refusal is told. Assumes nothing.
-use mathlib.Core.Path.{_≡_, refl, sym, ap, ap₂, _∙_}
+use mathlib.Core.Path.{sym, ap, ap₂, _∙_}
 use Prim.Native.Nat.{ℕ}
 use denote.Ref.{now}
 use lib.ListN.{length}

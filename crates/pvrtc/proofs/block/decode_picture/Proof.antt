@@ -1,5 +1,5 @@
 -- `pvrtc::block::decode_picture` meets its contract. The loop keeps that the first rows of blocks are laid. Assumes nothing.
-use mathlib.Core.Path.{_≡_, sym, ap, _∙_}
+use mathlib.Core.Path.{sym, ap, _∙_}
 use Prim.Native.Nat.{_-_, _≤_}
 use native.Mathlib.Omega.{arith}
 use borrow.Author.Needs.{needs}

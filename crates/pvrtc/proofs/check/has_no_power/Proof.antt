@@ -1,9 +1,9 @@
 -- `pvrtc::check::has_no_power` meets its contract. Assumes nothing.
 use mathlib.Core.Bool.{not}
-use mathlib.Core.Path.{_≡_, sym, ap, _∙_}
+use mathlib.Core.Path.{sym, ap, _∙_}
 use borrow.Author.Needs.{needs}
 use Rattle.grid.specs.Grid.{isPower}
-use Rattle.pvrtc.proofs.Accepted.{or-taken, or-passed}
+use Rattle.facts.proofs.Or.{or-passed, or-taken}
 use Rattle.pvrtc.proofs.check.has_no_power.Statement.{statement}
 use Rattle.pvrtc.proofs.check.has_no_power.Tie as tie
 

@@ -1,5 +1,4 @@
 -- `pvrtc::check::has_short_image` meets its contract, call by call. Assumes nothing.
-use mathlib.Core.Path.{_≡_, sym, ap, _∙_}
 use native.Mathlib.Nat.{mul-le-mul}
 use native.Mathlib.Omega.{arith}
 use borrow.Author.Needs.{needs}

@@ -1,5 +1,4 @@
 -- `pvrtc::plain::plain_block_row` meets its contract. The loop keeps that the first bx blocks of the row are laid. Assumes nothing.
-use mathlib.Core.Path.{_≡_}
 use Prim.Native.Nat.{_-_, _≤_}
 use native.Mathlib.Omega.{arith}
 use denote.Ref.{now}

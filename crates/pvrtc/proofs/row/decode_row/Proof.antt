@@ -2,7 +2,7 @@
 -- it has too that no texel is refused. Assumes nothing.
 use mathlib.Core.Path.{_≡_, refl, sym, ap, ap₂, _∙_}
 use mathlib.Core.Logic.{⊎-elim}
-use Prim.Native.Nat.{ℕ, _-_, _/_, _%_, _≤_, _<_}
+use Prim.Native.Nat.{ℕ, _-_, _/_, _%_, _≤_}
 use native.Mathlib.Omega.{arith}
 use denote.Ref.{now}
 use lib.ListN.{length}
@@ -10,7 +10,7 @@ use borrow.Author.Needs.{needs}
 use Rattle.grid.proofs.Powers.{power-above}
 use Rattle.paint.proofs.Laid.{Row, row-none}
 use Rattle.paint.specs.Paint.{painted}
-use Rattle.pvrtc.proofs.Accepted.{Accepted, accepted, grid, column-in, row-in, row-inside, row-roomy, width-small}
+use Rattle.pvrtc.proofs.Accepted.{accepted, grid, column-in, row-in, row-inside, row-roomy, width-small}
 use Rattle.pvrtc.proofs.InRow.{not-refused, its-word, next-word, Before, Held, held-none, slides, slides-read, held-first, held-later, held-texel, held-next}
 use Rattle.pvrtc.proofs.Unique.{by-words, by-none}
 use Rattle.texel.proofs.Shares.{half-high}

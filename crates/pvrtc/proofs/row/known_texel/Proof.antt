@@ -1,12 +1,11 @@
 -- `pvrtc::row::known_texel` meets its contract, as the texel call does. Assumes nothing.
-use mathlib.Core.Path.{_≡_, sym, ap, _∙_}
-use Prim.Native.Nat.{ℕ, _%_, _<_}
+use mathlib.Core.Path.{sym, ap, _∙_}
+use Prim.Native.Nat.{ℕ}
 use native.Mathlib.Nat.{mod-lt}
 use native.Mathlib.Omega.{arith}
 use denote.Ref.{now}
 use lib.ListN.{getD}
 use borrow.Author.Needs.{needs}
-use Rattle.grid.specs.Grid.{blockWidth}
 use Rattle.pvrtc.proofs.Accepted.{wide}
 use Rattle.pvrtc.proofs.Unique.{by-word, by-refusal}
 use Rattle.pvrtc.specs.Refusals.{decodedNumber}

@@ -1,6 +1,6 @@
 -- `texel::words::needed_words` meets its contract. The loop keeps that the first k words are read, as far as they are needed. Assumes nothing.
 use mathlib.Core.Path.{refl}
-use Prim.Native.Nat.{ℕ, _-_, _*_, _≤_, _/_, _%_}
+use Prim.Native.Nat.{_-_, _*_, _≤_, _/_, _%_}
 use native.Mathlib.Nat.{mul-le-mul}
 use native.Mathlib.Omega.{arith}
 use lib.ListN.{getD}

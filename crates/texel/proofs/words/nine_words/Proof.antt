@@ -1,6 +1,6 @@
 -- `texel::words::nine_words` meets its contract. The loop keeps that the first k words are read. Assumes nothing.
 use mathlib.Core.Path.{refl, ap, _∙_}
-use Prim.Native.Nat.{ℕ, _-_, _*_, _≤_, _/_, _%_}
+use Prim.Native.Nat.{ℕ, _-_, _*_, _≤_}
 use native.Mathlib.Omega.{arith}
 use denote.Ref.{now}
 use lib.ListN.{drop}

@@ -1,14 +1,11 @@
 -- `texel::words::texel_at` meets its contract: `Needed` has that the words with a share give the texel. Assumes nothing.
-use Prim.Native.Nat.{_%_, _<_}
-use native.Mathlib.Nat.{mod-lt}
+use Prim.Native.Nat.{_%_}
 use native.Mathlib.Omega.{arith}
 use denote.Ref.{now}
 use borrow.Author.Needs.{needs}
-use Rattle.grid.specs.Grid.{blockWidth}
 use Rattle.texel.proofs.Across.{row-at, few-shares, few-across}
 use Rattle.texel.proofs.Needed.{needed-read, texel-needed, place}
 use Rattle.texel.proofs.Shares.{half-low}
-use Rattle.texel.specs.Inner.{Place}
 use Rattle.texel.proofs.words.texel_at.Statement.{statement}
 use Rattle.texel.proofs.words.texel_at.Tie as tie
 
