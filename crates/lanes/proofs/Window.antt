@@ -1,5 +1,5 @@
 -- A window of three columns gives the sums of the nine words, at either depth. Assumes nothing.
-use mathlib.Core.Path.{_≡_, sym, ap}
+use mathlib.Core.Path.{_≡_, sym, ap, _∙_}
 use mathlib.Core.Bool.{Bool, true, false, cond}
 use mathlib.Core.List.{List}
 use Prim.Native.Nat.{ℕ, _+_, _*_, _-_, _<_}
@@ -45,41 +45,17 @@ module _ (two : Bool) (d : List ℕ) (z : ℕ → ℕ → ℕ) where
   columnAt i = columnOf d (z i 0) (z i 1) (z i 2)
 
   module _ (x y : ℕ) (hx : x < blockWidth two) (hy : y < 4) where
+    -- columns k whose row y is the words' by their shares there, for either colour
+    summed : (second : Bool) (k : ℕ → List ℕ)
+        → ((i : ℕ) → getD (k i) y 0 ≡ shared 2 y (wordLanes nineAt second i 0) (wordLanes nineAt second i 1) (wordLanes nineAt second i 2))
+        → shared (half two) x (getD (k 0) y 0) (getD (k 1) y 0) (getD (k 2) y 0) ≡ sumLanes (sumsTo (half two) nineAt second x y 9)
+    summed second k e = rw (e 0, e 1, e 2) (sums-are (half two) x y nineAt second)
+
     sum-a : shared (half two) x (getD (columnAt 0 .a) y 0) (getD (columnAt 1 .a) y 0) (getD (columnAt 2 .a) y 0) ≡ sumLanes (sumsTo (half two) nineAt false x y 9)
-    sum-a =
-        rw (
-          row-a d (z 0 0) (z 0 1) (z 0 2) y hy,
-          row-a d (z 1 0) (z 1 1) (z 1 2) y hy,
-          row-a d (z 2 0) (z 2 1) (z 2 2) y hy,
-          lanes-a 0 0,
-          lanes-a 0 1,
-          lanes-a 0 2,
-          lanes-a 1 0,
-          lanes-a 1 1,
-          lanes-a 1 2,
-          lanes-a 2 0,
-          lanes-a 2 1,
-          lanes-a 2 2,
-        )
-        (sums-are (half two) x y nineAt false)
+    sum-a = summed false (λ i. columnAt i .a) (λ i. row-a d (z i 0) (z i 1) (z i 2) y hy ∙ rw (lanes-a i 0, lanes-a i 1, lanes-a i 2))
 
     sum-b : shared (half two) x (getD (columnAt 0 .b) y 0) (getD (columnAt 1 .b) y 0) (getD (columnAt 2 .b) y 0) ≡ sumLanes (sumsTo (half two) nineAt true x y 9)
-    sum-b =
-        rw (
-          row-b d (z 0 0) (z 0 1) (z 0 2) y hy,
-          row-b d (z 1 0) (z 1 1) (z 1 2) y hy,
-          row-b d (z 2 0) (z 2 1) (z 2 2) y hy,
-          lanes-b 0 0,
-          lanes-b 0 1,
-          lanes-b 0 2,
-          lanes-b 1 0,
-          lanes-b 1 1,
-          lanes-b 1 2,
-          lanes-b 2 0,
-          lanes-b 2 1,
-          lanes-b 2 2,
-        )
-        (sums-are (half two) x y nineAt true)
+    sum-b = summed true (λ i. columnAt i .b) (λ i. row-b d (z i 0) (z i 1) (z i 2) y hy ∙ rw (lanes-b i 0, lanes-b i 1, lanes-b i 2))
 
     low : (second : Bool) → Low (8 * half two) (sumsTo (half two) nineAt second x y 9)
     low second = sums-low (half two) nineAt second x y hx hy 9 (omega arith) (λ k l. small-side two second _)

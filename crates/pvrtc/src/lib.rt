@@ -1,7 +1,6 @@
 // The calls: a texel, a row, all blocks of a picture.
 mod block;
 mod check;
-mod plain;
 mod row;
 
 pub use block::decode_pvrtc;

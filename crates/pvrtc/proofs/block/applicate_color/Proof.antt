@@ -1,7 +1,7 @@
--- `pvrtc::plain::applicate_color` meets its contract, by the depth. Assumes nothing.
+-- `pvrtc::block::applicate_color` meets its contract, by the depth. Assumes nothing.
 use mathlib.Core.Path.{_∙_}
-use Rattle.pvrtc.proofs.plain.applicate_color.Statement.{statement}
-use Rattle.pvrtc.proofs.plain.applicate_color.Tie as tie
+use Rattle.pvrtc.proofs.block.applicate_color.Statement.{statement}
+use Rattle.pvrtc.proofs.block.applicate_color.Tie as tie
 
 applicate-color-2bpp-requires : tie.Need-applicate-color-2bpp-requires
 applicate-color-2bpp-requires c κs = rw (c .if1 .taken) at (c .before .pre)

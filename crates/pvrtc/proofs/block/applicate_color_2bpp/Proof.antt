@@ -1,4 +1,4 @@
--- `pvrtc::plain::applicate_color_4bpp` meets its contract. The loop keeps that the first i texels are in the buffer. Assumes nothing.
+-- `pvrtc::block::applicate_color_2bpp` meets its contract. The loop keeps that the first i texels are in the buffer. Assumes nothing.
 use mathlib.Core.List.{_++_}
 use mathlib.Core.Path.{_≡_, _∙_, ap}
 use Prim.Native.Nat.{ℕ, _-_, _≤_, _/_, _%_}
@@ -10,14 +10,14 @@ use Rattle.facts.specs.Tab.{tab}
 use Rattle.pvrtc.specs.Inner.{blockWords}
 use Rattle.texel.specs.Inner.{nineOf}
 use Rattle.texel.specs.Texel.{packed, texelIn}
-use Rattle.pvrtc.proofs.plain.applicate_color_4bpp.Statement.{statement}
-use Rattle.pvrtc.proofs.plain.applicate_color_4bpp.Tie as tie
+use Rattle.pvrtc.proofs.block.applicate_color_2bpp.Statement.{statement}
+use Rattle.pvrtc.proofs.block.applicate_color_2bpp.Tie as tie
 
 abbrev Inv-loop : tie.InvT-loop
-Inv-loop nine buffer₀ i₀ buffer i = (i ≤ 16) × Filled (λ i. packed (texelIn 2 (nineOf nine) (i % 4) (i / 4))) buffer₀ i buffer
+Inv-loop nine buffer₀ i₀ buffer i = (i ≤ 32) × Filled (λ i. packed (texelIn 4 (nineOf nine) (i % 8) (i / 8))) buffer₀ i buffer
 
 abbrev μ-loop : tie.MeasureT-loop
-μ-loop nine buffer₀ i₀ buffer i = 16 - i
+μ-loop nine buffer₀ i₀ buffer i = 32 - i
 
 loop-holds : tie.Need-loop-holds Inv-loop μ-loop
 loop-holds c = (omega arith, filled-none _ _)
@@ -47,11 +47,11 @@ unfolding blockWords
 returns c =
     let l = c .before .loop in
     let nine = c .before .before .args .nine in
-    let all : l .i ≡ 16 = omega arith in
-    l .inv .1 .is ∙ ap (λ (n : ℕ). tab (λ i. packed (texelIn 2 (nineOf nine) (i % 4) (i / 4))) n ++ drop n (replicate 32 0)) all
+    let all : l .i ≡ 32 = omega arith in
+    l .inv .1 .is ∙ ap (λ (n : ℕ). tab (λ i. packed (texelIn 4 (nineOf nine) (i % 8) (i / 8))) n ++ drop n (replicate 32 0)) all
 
-pub applicate-color-4bpp-spec : {M : Type 1} → statement M
-applicate-color-4bpp-spec =
+pub applicate-color-2bpp-spec : {M : Type 1} → statement M
+applicate-color-2bpp-spec =
     tie.close
     (tie.spec
     Inv-loop

@@ -1,10 +1,10 @@
--- `pvrtc::plain::plain_block_row` meets its contract. The loop keeps that the first bx blocks of the row are laid. Assumes nothing.
+-- `pvrtc::block::plain_block_row` meets its contract. The loop keeps that the first bx blocks of the row are laid. Assumes nothing.
 use Prim.Native.Nat.{_-_, _≤_}
 use native.Mathlib.Omega.{arith}
 use denote.Ref.{now}
 use Rattle.pvrtc.proofs.InBlock.{BlocksLaid, no-blocks, next-block, all-blocks, ready-still}
-use Rattle.pvrtc.proofs.plain.plain_block_row.Statement.{statement}
-use Rattle.pvrtc.proofs.plain.plain_block_row.Tie as tie
+use Rattle.pvrtc.proofs.block.plain_block_row.Statement.{statement}
+use Rattle.pvrtc.proofs.block.plain_block_row.Tie as tie
 
 abbrev Inv-loop : tie.InvT-loop
 Inv-loop «data» p nx ny by image₀ bx₀ image bx = (bx ≤ nx) × BlocksLaid p «data» bx by image₀ image

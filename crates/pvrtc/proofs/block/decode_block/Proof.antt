@@ -1,10 +1,10 @@
--- `pvrtc::plain::decode_block` meets its contract: `InBlock` has that the buffer laid is the block laid. Assumes nothing.
+-- `pvrtc::block::decode_block` meets its contract: `InBlock` has that the buffer laid is the block laid. Assumes nothing.
 use denote.Ref.{now}
 use borrow.Author.Needs.{needs}
 use Rattle.pvrtc.proofs.InBlock.{fits, laid}
 use Rattle.texel.proofs.Nine.{read}
-use Rattle.pvrtc.proofs.plain.decode_block.Statement.{statement}
-use Rattle.pvrtc.proofs.plain.decode_block.Tie as tie
+use Rattle.pvrtc.proofs.block.decode_block.Statement.{statement}
+use Rattle.pvrtc.proofs.block.decode_block.Tie as tie
 
 nine-words-requires : tie.Need-nine-words-requires
 nine-words-requires c κs = search needs
