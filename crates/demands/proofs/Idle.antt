@@ -8,7 +8,7 @@ use Rattle.facts.specs.Checks.{firstOf}
 use Rattle.facts.specs.Sum.{sum}
 use Rattle.facts.specs.Tab.{tab}
 use Rattle.grid.specs.Grid.{halvings, log2, address, beside}
-use Rattle.word.specs.Word.{weight4, punch4, stored2, weight2, fill2, wordOf}
+use Rattle.word.specs.Word.{weight4bpp, punch4bpp, stored2bpp, weight2bpp, fill2bpp, wordOf}
 use Rattle.texel.specs.Texel.{share, nineSum, scaleColor, scaleAlpha, blended, near, filled, mixed, texelIn, texelAt}
 use Rattle.pvrtc.specs.Calls.{refusal, pictureTexel, TexelRead}
 use Rattle.pvrtc.specs.Refusals.{shortImage, outside}
@@ -41,23 +41,23 @@ block-passes = refl
 
 -- the texels that are looked at: red in the middle of the first block, black in the middle of the second, half red between them
 red : pictureTexel beside8 redBlack 2 2 ≡ 0xFFFF0000
-unfolding tab flags sum halvings log2 address beside weight4 punch4 stored2 weight2 fill2 wordOf share nineSum scaleColor scaleAlpha blended near filled mixed texelIn texelAt
+unfolding tab flags sum halvings log2 address beside weight4bpp punch4bpp stored2bpp weight2bpp fill2bpp wordOf share nineSum scaleColor scaleAlpha blended near filled mixed texelIn texelAt
 red = refl
 
 black : pictureTexel beside8 redBlack 6 2 ≡ 0xFF000000
-unfolding tab flags sum halvings log2 address beside weight4 punch4 stored2 weight2 fill2 wordOf share nineSum scaleColor scaleAlpha blended near filled mixed texelIn texelAt
+unfolding tab flags sum halvings log2 address beside weight4bpp punch4bpp stored2bpp weight2bpp fill2bpp wordOf share nineSum scaleColor scaleAlpha blended near filled mixed texelIn texelAt
 black = refl
 
 top-red : pictureTexel beside8 redBlack 2 0 ≡ 0xFFFF0000
-unfolding tab flags sum halvings log2 address beside weight4 punch4 stored2 weight2 fill2 wordOf share nineSum scaleColor scaleAlpha blended near filled mixed texelIn texelAt
+unfolding tab flags sum halvings log2 address beside weight4bpp punch4bpp stored2bpp weight2bpp fill2bpp wordOf share nineSum scaleColor scaleAlpha blended near filled mixed texelIn texelAt
 top-red = refl
 
 below-red : pictureTexel below8 redBlack 2 2 ≡ 0xFFFF0000
-unfolding tab flags sum halvings log2 address beside weight4 punch4 stored2 weight2 fill2 wordOf share nineSum scaleColor scaleAlpha blended near filled mixed texelIn texelAt
+unfolding tab flags sum halvings log2 address beside weight4bpp punch4bpp stored2bpp weight2bpp fill2bpp wordOf share nineSum scaleColor scaleAlpha blended near filled mixed texelIn texelAt
 below-red = refl
 
 below-half : pictureTexel below8 redBlack 2 0 ≡ 0xFF7F0000
-unfolding tab flags sum halvings log2 address beside weight4 punch4 stored2 weight2 fill2 wordOf share nineSum scaleColor scaleAlpha blended near filled mixed texelIn texelAt
+unfolding tab flags sum halvings log2 address beside weight4bpp punch4bpp stored2bpp weight2bpp fill2bpp wordOf share nineSum scaleColor scaleAlpha blended near filled mixed texelIn texelAt
 below-half = refl
 
 pub no-idling : NoIdling

@@ -20,7 +20,7 @@ use Rattle.facts.proofs.Numbers.{lt-or-le}
 use Rattle.facts.proofs.Sum.{term-le}
 use Rattle.facts.proofs.Tab.{length-tab, getD-tab}
 use Rattle.grid.specs.Grid.{half, blockWidth, blockAddress, beside}
-use Rattle.word.specs.Word.{weight4, punch4, weight2, fill2, wordOf}
+use Rattle.word.specs.Word.{weight4bpp, punch4bpp, weight2bpp, fill2bpp, wordOf}
 use Rattle.word.specs.declared.PVRTCTexelColor.{PVRTCTexelColor}
 use Rattle.word.proofs.Bounds.{color-a, color-b}
 use Rattle.word.proofs.Same.{word-same}
@@ -58,7 +58,7 @@ module _ (v n z : ℕ) (lz : z < n) where
 
 -- a texel whose words are all of bytes 0 is 0
 black : (two : Bool) (px py : ℕ) → px < blockWidth two → py < 4 → packed (texelIn (half two) (λ i j. wordOf two []) px py) ≡ 0
-unfolding sum tab flags weight4 punch4 weight2 fill2 wordOf share nineSum scaleColor scaleAlpha blended near filled mixed texelIn
+unfolding sum tab flags weight4bpp punch4bpp weight2bpp fill2bpp wordOf share nineSum scaleColor scaleAlpha blended near filled mixed texelIn
 black true px py lx ly = eqb→eq _ 0 (below₂ (λ px py. eqb (packed (texelIn 4 (λ i j. wordOf true []) px py)) 0) 8 4 tt px py lx ly)
 black false px py lx ly = eqb→eq _ 0 (below₂ (λ px py. eqb (packed (texelIn 2 (λ i j. wordOf false []) px py)) 0) 4 4 tt px py lx ly)
 

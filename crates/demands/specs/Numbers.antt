@@ -7,7 +7,7 @@ use lib.Dec.{eqb}
 use lib.ListN.{length}
 use Rattle.facts.specs.Tab.{tab}
 use Rattle.grid.specs.Grid.{blockWidth, blocks, blockAddress}
-use Rattle.word.specs.Word.{blueA, blueB, weight2}
+use Rattle.word.specs.Word.{blueA, blueB, weight2bpp}
 use Rattle.texel.specs.Texel.{blended, mean2, mean4, texelWord}
 use Rattle.demands.specs.Footprint.{footprint}
 
@@ -78,9 +78,9 @@ table =
     -- fill of 0 and 3 is 2; of 0, 3, 5, 8 is 4
     ∷ line (mean2 0 3 ∷ mean4 0 3 5 8 ∷ []) (2 ∷ 4 ∷ [])
     -- 2bpp texel 0, code 1 is 0; code 2 is 8
-    ∷ line (weight2 true 1 0 ∷ weight2 true 2 0 ∷ []) (0 ∷ 8 ∷ [])
+    ∷ line (weight2bpp true 1 0 ∷ weight2bpp true 2 0 ∷ []) (0 ∷ 8 ∷ [])
     -- texel 20, code 1: 0 if bit 0 is set, else 3
-    ∷ line (weight2 true 0x100001 20 ∷ weight2 true 0x100000 20 ∷ []) (0 ∷ 3 ∷ [])
+    ∷ line (weight2bpp true 0x100001 20 ∷ weight2bpp true 0x100000 20 ∷ []) (0 ∷ 3 ∷ [])
     -- footprint of (2,2) at 4bpp is one block; of (0,0) in an 8 × 8 picture, four
     ∷ line (blocksFor false 8 8 2 2 ∷ blocksFor false 8 8 0 0 ∷ []) (1 ∷ 4 ∷ [])
     ∷ []

@@ -1,15 +1,16 @@
 -- A number is said exactly when its condition holds and no earlier one does. Assumes nothing.
-use mathlib.Core.Path.{_≡_, refl}
+use mathlib.Core.Path.{_≡_, refl, sym, _∙_}
 use mathlib.Core.Bool.{Bool, true, false, cond}
 use mathlib.Core.List.{List, [], _∷_, _++_}
 use mathlib.Core.Logic.{_↔_}
 use Prim.Native.Nat.{ℕ, zero, suc, _+_, _<_}
 use native.Mathlib.Nat.{le-of-suc-le-suc, not-suc-le-zero}
 use native.Mathlib.Omega.{arith}
-use lib.Dec.{eqb}
+use lib.Dec.{T, eqb, ltb, ltb→lt}
 use lib.ListN.{length}
 use borrow.Author.Tests.{ne-eqb}
-use Rattle.facts.specs.Checks.{Check, firstOf, at, Given}
+use Rattle.facts.specs.Checks.{Check, firstOf, numbered, condition, at, Given}
+use Rattle.facts.proofs.Finite.{and-left, and-right}
 
 -- a check that does not hold stands before the place
 later : (c : Check) (l : List Check) (n : ℕ) → c .holds ≡ false → Given l n → Given (c ∷ l) n
@@ -47,24 +48,43 @@ then-at (c ∷ l) n (suc k) w e h none =
 pub exactly-when : (l : List Check) (n : ℕ) → 0 < n → (firstOf l ≡ n) ↔ Given l n
 exactly-when l n p = (only-then l n p, λ g. then-at l n (g .place) (g .within) (g .number) (g .holds) (g .none-earlier))
 
--- where no number is said, no condition holds
-pub none-holds : (l : List Check) → ((k : ℕ) → k < length l → 0 < at l k .number) → firstOf l ≡ 0 → (k : ℕ) → at l k .holds ≡ false
+-- the first number of a list, and those after it
+number-above : (c : Check) (l : List Check) → T (numbered (c ∷ l)) → 0 < c .number
+number-above c l e = ltb→lt 0 (c .number) (and-left (ltb 0 (c .number)) (numbered l) e)
+
+later-numbered : (c : Check) (l : List Check) → T (numbered (c ∷ l)) → T (numbered l)
+later-numbered c l e = and-right (ltb 0 (c .number)) (numbered l) e
+
+-- where no number is said, the condition of no number holds
+pub none-said : (l : List Check) → T (numbered l) → firstOf l ≡ 0 → (n : ℕ) → condition l n ≡ false
 unfolding firstOf
-none-holds [] p e k = refl
-none-holds (c ∷ l) p e k = by (c .holds) refl e (none-holds l (λ j h. p (suc j) (omega arith))) k
+none-said [] p e n = refl
+none-said (c ∷ l) p e n = by (c .holds) refl e (λ q. none-said l (later-numbered c l p) q n)
   where
-    by : (t : Bool) → c .holds ≡ t → cond t (c .number) (firstOf l) ≡ 0 → (firstOf l ≡ 0 → (j : ℕ) → at l j .holds ≡ false) → (k : ℕ) → at (c ∷ l) k .holds ≡ false
-    by true h q rest k = absurd (omega (arith, p 0 (omega arith)))
-    by false h q rest zero = h
-    by false h q rest (suc k) = rest q k
+    either : (t : Bool) {r : Bool} → r ≡ false → cond t false r ≡ false
+    either true e = refl
+    either false e = e
+
+    by : (t : Bool) → c .holds ≡ t → cond t (c .number) (firstOf l) ≡ 0 → ((firstOf l ≡ 0) → condition l n ≡ false) → condition (c ∷ l) n ≡ false
+    by true h q rest = absurd (omega (arith, number-above c l p))
+    by false h q rest = rw h (either (eqb (c .number) n) (rest q))
 
 -- of two lists, one after the other, the second speaks where the first says nothing
-pub first-append : (l m : List Check) → ((k : ℕ) → k < length l → 0 < at l k .number) → firstOf (l ++ m) ≡ cond (eqb (firstOf l) 0) (firstOf m) (firstOf l)
+pub first-append : (l m : List Check) → T (numbered l) → firstOf (l ++ m) ≡ cond (eqb (firstOf l) 0) (firstOf m) (firstOf l)
 unfolding firstOf
 first-append [] m p = refl
-first-append (c ∷ l) m p = by (c .holds) (first-append l m (λ j h. p (suc j) (omega arith)))
+first-append (c ∷ l) m p = by (c .holds) (first-append l m (later-numbered c l p))
   where
     by : (t : Bool) → firstOf (l ++ m) ≡ cond (eqb (firstOf l) 0) (firstOf m) (firstOf l)
         → cond t (c .number) (firstOf (l ++ m)) ≡ cond (eqb (cond t (c .number) (firstOf l)) 0) (firstOf m) (cond t (c .number) (firstOf l))
-    by true e = rw (ne-eqb (c .number) 0 (omega (arith, p 0 (omega arith))))
+    by true e = rw (ne-eqb (c .number) 0 (omega (arith, number-above c l p)))
     by false e = e
+
+-- so a number that the first says is said, and where it says none, what the second says
+pub said-first : (l m : List Check) {n : ℕ} → T (numbered l) → n ≡ firstOf l → 0 < n → n ≡ firstOf (l ++ m)
+said-first l m {n} p e h =
+    let other : eqb (firstOf l) 0 ≡ false = ne-eqb (firstOf l) 0 (λ q. omega arith) in
+    e ∙ sym (first-append l m p ∙ rw other)
+
+pub said-later : (l m : List Check) {n : ℕ} → T (numbered l) → 0 ≡ firstOf l → n ≡ firstOf m → n ≡ firstOf (l ++ m)
+said-later l m p z e = e ∙ sym (first-append l m p ∙ rw (sym z))

@@ -1,8 +1,9 @@
 -- Checks in an order: a call says the number of the first whose condition holds. Assumes nothing: these are definitions.
 use mathlib.Core.Path.{_≡_}
-use mathlib.Core.Bool.{Bool, true, false, cond}
+use mathlib.Core.Bool.{Bool, true, false, cond, _&&_}
 use mathlib.Core.List.{List, [], _∷_}
 use Prim.Native.Nat.{ℕ, _<_}
+use lib.Dec.{eqb, ltb}
 use lib.ListN.{length, getD}
 
 -- A condition, and the number that is said where it holds.
@@ -17,6 +18,16 @@ check holds number = record { holds = holds; number = number }
 unfoldable pub firstOf : List Check → ℕ
 firstOf [] = 0
 firstOf (c ∷ l) = cond (c .holds) (c .number) (firstOf l)
+
+-- Every number of a list is above 0.
+abbrev pub numbered : List Check → Bool
+numbered [] = true
+numbered (c ∷ l) = ltb 0 (c .number) && numbered l
+
+-- The condition of the check that says n; where none does, one that never holds.
+abbrev pub condition : List Check → ℕ → Bool
+condition [] n = false
+condition (c ∷ l) n = cond (eqb (c .number) n) (c .holds) (condition l n)
 
 -- The check at a place of a list; past its end, one that never holds.
 abbrev pub at : List Check → ℕ → Check

@@ -1,11 +1,21 @@
 -- Laws of the number of blocks along a side, over the size of a block. Assumes nothing.
 use mathlib.Core.Path.{_≡_, sym}
+use mathlib.Core.Bool.{Bool, true, false}
 use mathlib.Core.Logic.{⊎-elim}
 use Prim.Native.Nat.{ℕ, _+_, _-_, _*_, _/_, _%_, _≤_, _<_}
 use native.Mathlib.Nat.{div-add-mod', div-lt-iff-lt-mul, div-mul-le-self, lt-div-mul-add, mul-le-mul-right, mul-le-mul-left, mod-lt}
 use native.Mathlib.Omega.{arith}
-use Rattle.grid.specs.Grid.{blocks}
+use Rattle.grid.specs.Grid.{blockWidth, blocks}
 use Rattle.facts.proofs.Numbers.{lt-or-le, split}
+
+-- a block is some texels across
+pub wide : (two : Bool) → 0 < blockWidth two
+wide true = omega arith
+wide false = omega arith
+
+-- a width by another name
+pub wide-as : (two : Bool) {w : ℕ} → w ≡ blockWidth two → 0 < w
+wide-as two e = rw e (wide two)
 
 module _ (size side : ℕ) (pos : 0 < size) where
   -- a side that the size divides

@@ -6,3 +6,4 @@ pub mod Powers
 pub mod Spreading
 pub mod Torus
 pub mod Turn
+pub mod Words

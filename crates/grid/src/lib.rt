@@ -5,8 +5,16 @@ pub use table::morton_index_by_table;
 pub use table::spread;
 pub use table::spread_table;
 ghost use mathlib.Core.Path.{_≡_};
-ghost use Prim.Native.Nat.{_<_};
+ghost use Prim.Native.Nat.{_≤_, _<_};
 ghost use Rattle.grid.specs.Grid.{blockWidth, blocks, log2, Power, isPower, Placed, address, beside};
+ghost use Rattle.grid.specs.Words.{wordBytes};
+
+// The blocks that hold a picture's words: how many across and down, and the depth that they are read at.
+pub struct Grid {
+    pub across: usize,
+    pub down: usize,
+    pub is2bpp: bool,
+}
 
 // The texels across a block.
 pub fn block_width(is2bpp: bool) -> usize
@@ -40,6 +48,14 @@ pub fn num_blocks_y(height: usize) -> usize
     ensures { λ r. ⌜ r ≡ blocks 4 height ⌝ }
 {
     div_ceil(height, 4)
+}
+
+// The bytes of a grid's words.
+pub fn need_of(g: Grid) -> usize
+    requires { ⌜ (g .across ≤ 65536) × (g .down ≤ 65536) ⌝ }
+    ensures { λ r. ⌜ r ≡ wordBytes g ⌝ }
+{
+    8 * (g.across * g.down)
 }
 
 // Whether n is a power of two.

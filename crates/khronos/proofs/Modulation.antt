@@ -9,7 +9,7 @@ use lib.Dec.{eqb}
 use Rattle.facts.specs.Bits.{isSet}
 use Rattle.grid.specs.Grid.{half, beside}
 use Rattle.word.specs.Word as word
-use Rattle.word.specs.Word.{mode, fill2, wordOf}
+use Rattle.word.specs.Word.{mode, fill2bpp, wordOf}
 use Rattle.word.specs.declared.Fill.the-variants.{Nothing, Around, AboveBelow, LeftRight}
 use Rattle.texel.specs.Texel.{Words, near, mean2, mean4, filled, ruleAt, about}
 use Rattle.khronos.specs.Agrees.{Bytes}
@@ -19,8 +19,8 @@ use Rattle.khronos.proofs.Strip.{Round, here, back, on}
 use Rattle.khronos.proofs.Weights.{is-stored}
 
 -- a word's fill rule at either depth
-is-filled : (two : Bool) (d : List ℕ) → wordOf two d .fill ≡ fill2 (two && mode d) (word.modulation d)
-unfolding wordOf fill2
+is-filled : (two : Bool) (d : List ℕ) → wordOf two d .fill ≡ fill2bpp (two && mode d) (word.modulation d)
+unfolding wordOf fill2bpp
 is-filled true d = refl
 is-filled false d = refl
 
@@ -99,7 +99,7 @@ module _ (two : Bool) (gx gy : ℕ) (lx : 0 < gx) (ly : 0 < gy) (bytes : ℕ →
 
   pub same-weight : (d : List ℕ) → Bytes d
       → filled (half two) (ruleAt (wordOf two d) (x % (2 * half two)) (y % 4)) nine u v ≡ modulation two gx gy (λ i j. word64 (bytes i j)) (word64 d) x y
-  unfolding modulation interpolated fill2
+  unfolding modulation interpolated fill2bpp
   same-weight d ld =
       rw (is-filled two d, odd (x % (2 * half two) + y % 4), is-mode (parts d ld), bit-0 (parts d ld), bit-20 (parts d ld))
       (by-tests (eqb ((x % (2 * half two) + y % 4) % 2) 0) (two && mode d) (isSet (word.modulation d) 0) (isSet (word.modulation d) 20))

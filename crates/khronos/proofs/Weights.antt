@@ -10,11 +10,11 @@ use Rattle.facts.specs.Bits.{isSet}
 use Rattle.facts.specs.Finite.{allBelow}
 use Rattle.facts.proofs.Finite.{below, below₂}
 use Rattle.grid.specs.Grid.{half}
-use Rattle.word.specs.Word.{code, standardWeight, punchThroughWeight, adjusted, weight4, weight2, stored2, wordOf}
+use Rattle.word.specs.Word.{code, standardWeight, punchThroughWeight, adjusted, weight4bpp, weight2bpp, stored2bpp, wordOf}
 use Rattle.word.proofs.Bounds.{weights-4, weights-2}
 use Rattle.khronos.specs.Agrees.{Bytes}
 use Rattle.khronos.specs.Khronos as khronos
-use Rattle.khronos.specs.Khronos.{word64, eighths, halves, highBit, chequered, stored4}
+use Rattle.khronos.specs.Khronos.{word64, eighths, halves, highBit, chequered, stored4bpp}
 use Rattle.khronos.proofs.Fields.{Parts, parts, is-modulation, is-mode, bit-0}
 
 -- two functions that agree at each number below n, as the checker computes
@@ -56,18 +56,18 @@ gives s px py hx hy = alike _ _ (by s)
     by false = below₂ (test false) 8 4 tt px py hx hy
 
 module _ {w m a b : ℕ} (p : Parts w m a b) (px py : ℕ) where
-  is-4 : weight4 (isSet a 0) m (4 * py + px) ≡ stored4 w px py
-  unfolding weight4
+  is-4 : weight4bpp (isSet a 0) m (4 * py + px) ≡ stored4bpp w px py
+  unfolding weight4bpp
   is-4 = rw (is-modulation p, is-mode p, is-halves (code m (4 * py + px)) (omega arith), is-eighths (code m (4 * py + px)) (omega arith))
 
-  is-chequered : px < 8 → py < 4 → stored2 m (8 * py + px) ≡ chequered w px py
-  unfolding stored2
+  is-chequered : px < 8 → py < 4 → stored2bpp m (8 * py + px) ≡ chequered w px py
+  unfolding stored2bpp
   is-chequered hx hy =
       let i : (8 * py + px) / 2 ≡ 4 * py + px / 2 = omega arith in
       rw (gives (isSet m 0) px py hx hy, i, is-modulation p, bit-0 p, is-high-bit (code m (4 * py + px / 2)) (omega arith), is-eighths (code m (4 * py + px / 2)) (omega arith))
 
-  is-2 : px < 8 → py < 4 → weight2 (isSet a 0) m (8 * py + px) ≡ khronos.stored2 w px py
-  unfolding weight2
+  is-2 : px < 8 → py < 4 → weight2bpp (isSet a 0) m (8 * py + px) ≡ khronos.stored2bpp w px py
+  unfolding weight2bpp
   is-2 hx hy =
       let column : (8 * py + px) % 8 ≡ px = omega arith in
       let row : (8 * py + px) / 8 ≡ py = omega arith in
@@ -75,6 +75,6 @@ module _ {w m a b : ℕ} (p : Parts w m a b) (px py : ℕ) where
 
 -- of either depth
 pub is-stored : (two : Bool) (d : List ℕ) → Bytes d → (px py : ℕ) → px < 2 * half two → py < 4
-    → getD (wordOf two d .weight) (2 * half two * py + px) 0 ≡ cond two (khronos.stored2 (word64 d) px py) (stored4 (word64 d) px py)
+    → getD (wordOf two d .weight) (2 * half two * py + px) 0 ≡ cond two (khronos.stored2bpp (word64 d) px py) (stored4bpp (word64 d) px py)
 is-stored true d l px py hx hy = weights-2 d (8 * py + px) (omega arith) ∙ is-2 (parts d l) px py hx hy
 is-stored false d l px py hx hy = weights-4 d (4 * py + px) (omega arith) ∙ is-4 (parts d l) px py

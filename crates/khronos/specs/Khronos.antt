@@ -136,8 +136,8 @@ halves (suc (suc (suc c))) = 8
 
 -- The modulation that a word stores for its texel (px, py).
 -- 4 bits a texel: sixteen codes in row order, read by the mode flag.
-abbrev pub stored4 : ℕ → ℕ → ℕ → ℕ
-stored4 w px py =
+abbrev pub stored4bpp : ℕ → ℕ → ℕ → ℕ
+stored4bpp w px py =
     cond (modeFlag w) (halves (field (modulationBits w) (2 * (4 * py + px)) 2)) (eighths (field (modulationBits w) (2 * (4 * py + px)) 2))
 
 -- 2 bits a texel, mode flag set: a chequerboard. Every second texel stores a code, in row order; two of these codes give their low
@@ -153,8 +153,8 @@ chequered w px py =
     cond (lendsBit w px py) (highBit (field (modulationBits w) (2 * (4 * py + px / 2)) 2)) (eighths (field (modulationBits w) (2 * (4 * py + px / 2)) 2))
 
 -- 2 bits a texel: with the mode flag clear a bit for each texel, all or nothing.
-abbrev pub stored2 : ℕ → ℕ → ℕ → ℕ
-stored2 w px py =
+abbrev pub stored2bpp : ℕ → ℕ → ℕ → ℕ
+stored2bpp w px py =
     cond (modeFlag w) (cond (eqb ((px + py) % 2) 0) (chequered w px py) 0) (8 * field (modulationBits w) (8 * py + px) 1)
 
 -- The modulation stored for the texel (x, y) of a grid of words, round the picture.
@@ -164,7 +164,7 @@ stored two gx gy words x y =
     let x' = x % (gx * bw) in
     let y' = y % (gy * 4) in
     let w = words (x' / bw) (y' / 4) in
-    cond two (stored2 w (x' % bw) (y' % 4)) (stored4 w (x' % bw) (y' % 4))
+    cond two (stored2bpp w (x' % bw) (y' % 4)) (stored4bpp w (x' % bw) (y' % 4))
 
 -- The other texels of a chequerboard: the mean of the four neighbours where bit 0 is clear; where it is set, of those above and below
 -- if bit 20 is set, else of those to the left and right. One texel back is a whole side less one on.

@@ -13,7 +13,7 @@ use Rattle.facts.proofs.Tab.{getD-tab}
 use Rattle.facts.specs.Bits.{isSet}
 use Rattle.facts.specs.Tab.{tab}
 use Rattle.word.proofs.Bounds.{weights-2, weight-le}
-use Rattle.word.specs.Word.{modulation, mode, code, stored2, weight2}
+use Rattle.word.specs.Word.{modulation, mode, code, stored2bpp, weight2bpp}
 use Rattle.lanes.specs.declared.Own.{Own}
 use Rattle.lanes.specs.declared.Rows.{Rows}
 use Rattle.lanes.specs.Column.{wordAt}
@@ -85,8 +85,8 @@ code-of n (suc (suc (suc (suc k)))) h = absurd (omega arith)
 abbrev byteOf : ℕ → ℕ → ℕ
 byteOf m y = m / 2 ^ (8 * y) % 256
 
-pub weight-byte : (one : Bool) (m y x : ℕ) → x < 8 → weight2 one m (8 * y + x) ≡ byteWeight one y (isSet m 0) (byteOf m y) x
-unfolding weight2 stored2
+pub weight-byte : (one : Bool) (m y x : ℕ) → x < 8 → weight2bpp one m (8 * y + x) ≡ byteWeight one y (isSet m 0) (byteOf m y) x
+unfolding weight2bpp stored2bpp
 weight-byte one m y x h =
     let e : (8 * y + x) / 2 ≡ 4 * y + x / 2 = omega arith in
     let f : 2 * (4 * y + x / 2) ≡ 8 * y + 2 * (x / 2) = omega arith in

@@ -14,7 +14,7 @@ use Rattle.texel.proofs.Range.{words, filled-le}
 use Rattle.texel.specs.Texel.{Words, packed, near, filled, ruleAt, punched, texelIn}
 use Rattle.word.proofs.Bounds.{weights-2, never-punched}
 use Rattle.word.specs.declared.Fill.the-variants.{Nothing, Around, AboveBelow, LeftRight}
-use Rattle.word.specs.Word.{modulation, mode, weight2, fill2, wordOf}
+use Rattle.word.specs.Word.{modulation, mode, weight2bpp, fill2bpp, wordOf}
 use Rattle.lanes.specs.declared.Rows.{Rows}
 use Rattle.lanes.specs.Column.{wordAt, columnOf}
 use Rattle.lanes.specs.Eight.{inBytes, weightRow, rowsOf, ownOf, filledRow, odds, evens, filledAt, filledRows, inRow2, inBlock2}
@@ -173,7 +173,7 @@ module _ (of : ℕ → ℕ → List ℕ) where
 
   -- in mode 1 a texel that is filled holds no weight of its own
   empty : (x y : ℕ) → x < 8 → y < 4 → one ≡ true → eqb ((x + y) % 2) 0 ≡ false → near 4 nine (x + 8) (y + 4) ≡ 0
-  unfolding near weight2
+  unfolding near weight2bpp
   empty x y hx hy eo ee =
       let a : (x + 8) / 8 ≡ 1 = omega arith in
       let b : (x + 8) % 8 ≡ x = omega arith in
@@ -184,7 +184,7 @@ module _ (of : ℕ → ℕ → List ℕ) where
       rw (a, b, c, d) (weights-2 own (8 * y + x) (omega arith) ∙ rw (eo, p, q, ee))
 
   fill-is : nine 1 1 .fill ≡ cond one (cond bit (cond high AboveBelow LeftRight) Around) Nothing
-  unfolding wordOf fill2
+  unfolding wordOf fill2bpp
   fill-is =
       let a : m / 2 ^ 0 % 2 ≡ m % 2 = omega arith in
       rw a

@@ -14,7 +14,7 @@ use Rattle.texel.proofs.Range.{words}
 use Rattle.word.proofs.Bounds.{weights-4, punch-bit, never-filled}
 use Rattle.word.specs.declared.Fill.{Fill}
 use Rattle.word.specs.declared.Fill.the-variants.{Nothing}
-use Rattle.word.specs.Word.{modulation, mode, code, standardWeight, punchThroughWeight, weight4, punch4}
+use Rattle.word.specs.Word.{modulation, mode, code, standardWeight, punchThroughWeight, weight4bpp, punch4bpp}
 use Rattle.lanes.specs.Column.{wordAt, columnOf}
 use Rattle.lanes.specs.Four.{weights, keeps, codesOf, inRow4, inBlock4}
 use Rattle.lanes.specs.Lanes.{bytes, clear, fitted, mixedLanes, shared, texelLanes, Mask}
@@ -63,7 +63,7 @@ module _ (of : ℕ → ℕ → List ℕ) (x y : ℕ) (hx : x < 4) (hy : y < 4) w
   own = of 1 1
 
   weight-is : getD weights (codesOf own .s + code (codesOf own .m / 2 ^ (8 * y)) x) 0 ≡ filled 2 (ruleAt (nine 1 1) x y) nine (x + 4) (y + 4)
-  unfolding codesOf weight4 filled near
+  unfolding codesOf weight4bpp filled near
   weight-is =
       let c = code (modulation own) i in
       let a : (x + 4) / 4 ≡ 1 = omega arith in
@@ -77,13 +77,13 @@ module _ (of : ℕ → ℕ → List ℕ) (x y : ℕ) (hx : x < 4) (hy : y < 4) w
       ∙ sym (ap (λ (f : Fill). filled 2 f nine (x + 4) (y + 4)) (no-rule (eqb ((x + y) % 2) 0) (nine 1 1 .fill) (never-filled own)) ∙ rw (a, b, d, e))
 
   keep-is : getD keeps (codesOf own .s + code (codesOf own .m / 2 ^ (8 * y)) x) 0 ≡ cond (punched 2 (nine 1 1) x y) clear bytes
-  unfolding codesOf punch4
+  unfolding codesOf punch4bpp
   keep-is =
       let c = code (modulation own) i in
       ap (λ (n : ℕ). getD keeps (4 * (getD own 4 0 % 2) + n) 0) (code-at (modulation own) x y)
       ∙ keep-at (getD own 4 0 % 2) c (omega arith) (omega arith)
       ∙ ap (λ (t : Bool). cond (t && eqb c 2) clear bytes) (sym (mode-is own))
-      ∙ ap (λ (t : Bool). cond t clear bytes) (sym (bit-is (punch4 (mode own) (modulation own) i) _ (punch-bit own i (omega arith))))
+      ∙ ap (λ (t : Bool). cond t clear bytes) (sym (bit-is (punch4bpp (mode own) (modulation own) i) _ (punch-bit own i (omega arith))))
 
 -- a texel of the window, whatever the nine addresses are
 pub texel-is : (d : List ℕ) (z : ℕ → ℕ → ℕ) (x y : ℕ) → x < 4 → y < 4

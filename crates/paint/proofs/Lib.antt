@@ -1,3 +1,3 @@
-pub mod Fitting
 pub mod Laid
 pub mod Painted
+pub mod Sheets

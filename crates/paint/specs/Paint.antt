@@ -1,7 +1,7 @@
 -- A rectangle of words laid into lent words. Assumes nothing: these are definitions.
 use mathlib.Core.Bool.{Bool, cond, _&&_}
 use mathlib.Core.List.{List}
-use Prim.Native.Nat.{ℕ, _+_, _-_, _*_, _/_, _%_, _<_, _≤_}
+use Prim.Native.Nat.{ℕ, _+_, _-_, _*_, _/_, _%_}
 use lib.Dec.{leb, ltb}
 use lib.ListN.{length, getD}
 use Rattle.facts.specs.Tab.{tab}
@@ -14,12 +14,3 @@ inside start stride w h k = leb start k && ltb ((k - start) % stride) w && ltb (
 unfoldable pub painted : (start stride w h : ℕ) → (ℕ → ℕ → ℕ) → List ℕ → List ℕ
 painted start stride w h f old =
     tab (λ k. cond (inside start stride w h k) (f ((k - start) % stride) ((k - start) / stride)) (getD old k 0)) (length old)
-
--- A block's place in a picture of w by h texels, and the room that the picture and the buffer have: what laying it asks.
-pub record Fits (w h bx by bw bh room : ℕ) : Type 0 where
-  pub starts-across : bx * bw < w
-  pub starts-down : by * bh < h
-  pub small-w : w ≤ 65536
-  pub small-h : h ≤ 65536
-  pub buffered : bw * bh ≤ 32
-  pub roomy : w * h ≤ room

@@ -160,7 +160,7 @@ unfolding weightsOf
 weights-at nine k l = getD-tab (λ k. getD nine k blank .weight) 9 k [] l
 
 module _ (two : Bool) (nine : List PVRTCTexelInfo) where
-  -- so a weight on the strip is the word's
+  -- so a weight of the nine blocks is the word's
   near-same : (x y : ℕ) → x < 3 * blockWidth two → y < 12 → near (half two) (onlyWeights (weightsOf nine)) x y ≡ near (half two) (nineOf nine) x y
   unfolding near
   near-same x y lx ly =

@@ -9,7 +9,7 @@ use Rattle.facts.proofs.Numbers.{lt-or-le}
 use Rattle.grid.specs.Grid.{half}
 use Rattle.texel.specs.declared.PVRTCTexelColorInt.{PVRTCTexelColorInt}
 use Rattle.texel.specs.Texel.{scaleColor, scaleAlpha, blended, packed, blend}
-use Rattle.texel.specs.Inner.{toBytes, pixel, Low, Bytes}
+use Rattle.texel.specs.Inner.{toBytes, pixel, Low, EightBits}
 
 -- eight parts in all, of a and of b
 parts : (a w : ℕ) → w ≤ 8 → a * (8 - w) + a * w ≡ 8 * a
@@ -57,18 +57,18 @@ formulas-are true s = rw (alpha-2bpp (s .a))
 formulas-are false s = rw (alpha-4bpp (s .a))
 
 -- sums that are small enough come to 8 bits
-pub bytes : (two : Bool) (s : PVRTCTexelColorInt) → Low (8 * half two) s → Bytes (toBytes (half two) s)
+pub bytes : (two : Bool) (s : PVRTCTexelColorInt) → Low (8 * half two) s → EightBits (toBytes (half two) s)
 unfolding scaleColor scaleAlpha
 bytes true s l = record { r = omega (arith, l .r); g = omega (arith, l .g); b = omega (arith, l .b); a = omega (arith, l .a) }
 bytes false s l = record { r = omega (arith, l .r); g = omega (arith, l .g); b = omega (arith, l .b); a = omega (arith, l .a) }
 
-pub scaled-by : (two : Bool) (s : PVRTCTexelColorInt) → Low (8 * half two) s → (formulas two s ≡ toBytes (half two) s) × Bytes (formulas two s)
+pub scaled-by : (two : Bool) (s : PVRTCTexelColorInt) → Low (8 * half two) s → (formulas two s ≡ toBytes (half two) s) × EightBits (formulas two s)
 scaled-by two s l =
     let e = formulas-are two s in
     (e, rw e (bytes two s l))
 
 -- the word of two pixels of 8 bits, blended, fits 32 bits
-pub word-below : (s t : PVRTCTexelColorInt) (w : ℕ) (punched : Bool) → w ≤ 8 → Bytes s → Bytes t → packed (blend (pixel s) (pixel t) w punched) < 4294967296
+pub word-below : (s t : PVRTCTexelColorInt) (w : ℕ) (punched : Bool) → w ≤ 8 → EightBits s → EightBits t → packed (blend (pixel s) (pixel t) w punched) < 4294967296
 word-below s t w punched l hs ht =
     omega (
       arith,

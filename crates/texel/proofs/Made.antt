@@ -36,7 +36,7 @@ pub weight : (two : Bool) (own : PVRTCTexelInfo) (nine : Words) (px py : ℕ) {f
     → r ≡ filled (half two) f nine (px + w) (py + 4) → r ≡ filled (half two) (ruleAt own px py) nine (px + blockWidth two) (py + 4)
 weight two own nine px py ef ew er = rw (← ef, ← ew) er
 
--- an index and the weight there, on the strip
+-- an index and the weight there
 pub near-is : (two : Bool) (weights : List (List ℕ)) (x y : ℕ) {k i : ℕ} → k ≡ 3 * (y / 4) + x / blockWidth two → i ≡ blockWidth two * (y % 4) + x % blockWidth two
     → getD (getD weights k []) i 0 ≡ near (half two) (onlyWeights weights) x y
 unfolding near

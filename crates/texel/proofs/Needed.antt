@@ -10,14 +10,15 @@ use lib.ListN.{getD, drop, getD-replicate}
 use borrow.Author.Tests.{ne-eqb}
 use Rattle.facts.proofs.Tab.{getD-tab}
 use Rattle.facts.specs.Tab.{tab}
+use Rattle.grid.specs.declared.Grid.{Grid}
 use Rattle.grid.specs.Grid.{half, blockWidth, beside}
 use Rattle.grid.proofs.Torus.{beside-below, beside-own, back-again}
 use Rattle.word.specs.Word.{Small, unread, wordOf}
 use Rattle.word.specs.declared.PVRTCTexelInfo.{PVRTCTexelInfo}
-use Rattle.texel.specs.Inner.{blank, nineOf, side, Place, Read}
+use Rattle.texel.specs.Inner.{blank, nineOf, side, wordsAbout, Place, Read}
 use Rattle.texel.specs.Needed.{addressOf, wordAbout, wordIf, neededAbout, every, rowWords, slid}
 use Rattle.texel.specs.Summed.{shares, FewShares}
-use Rattle.texel.specs.Texel.{share, packed, texelIn, about, texelAt, wordsOf, texelWord}
+use Rattle.texel.specs.Texel.{share, packed, texelIn, texelAt, gridTexel}
 use Rattle.texel.proofs.Nine.{small-side, low-weight}
 use Rattle.texel.proofs.Same.{HasShare, texel-same}
 use Rattle.texel.proofs.Shares.{half-low}
@@ -45,34 +46,34 @@ low-if two s d i l = by-test (eqb s 0)
     by-test true = omega (arith, getD-replicate {A = ℕ} 32 i 0 0 (below two l))
     by-test false = low-weight two d i l
 
-module _ (two : Bool) (gx gy : ℕ) (d : List ℕ) (bx by : ℕ) (across down : List ℕ) where
+module _ (g : Grid) (d : List ℕ) (bx by : ℕ) (across down : List ℕ) where
   -- word k of them
   entry : (k : ℕ) → k < 9
-      → getD (neededAbout two gx gy d bx by across down) k blank ≡ wordIf (getD across (k % 3) 0 * getD down (k / 3) 0) (wordAbout two gx gy d bx by k)
+      → getD (neededAbout g d bx by across down) k blank ≡ wordIf (getD across (k % 3) 0 * getD down (k / 3) 0) (wordAbout g d bx by k)
   unfolding neededAbout
-  entry k l = getD-tab (λ k. wordIf (getD across (k % 3) 0 * getD down (k / 3) 0) (wordAbout two gx gy d bx by k)) 9 k blank l
+  entry k l = getD-tab (λ k. wordIf (getD across (k % 3) 0 * getD down (k / 3) 0) (wordAbout g d bx by k)) 9 k blank l
 
   -- they were read, or nothing was
-  pub needed-read : Read two (neededAbout two gx gy d bx by across down)
+  pub needed-read : Read (g .is2bpp) (neededAbout g d bx by across down)
   needed-read =
       record {
-        small = λ second k l. subst (λ (w : PVRTCTexelInfo). Small (side second w)) (sym (entry k l)) (small-if two second (has k) (bytes k));
-        low = λ k i l m. subst (λ (w : PVRTCTexelInfo). getD (w .weight) i 0 ≤ 8) (sym (entry k l)) (low-if two (has k) (bytes k) i m);
+        small = λ second k l. subst (λ (w : PVRTCTexelInfo). Small (side second w)) (sym (entry k l)) (small-if (g .is2bpp) second (has k) (bytes k));
+        low = λ k i l m. subst (λ (w : PVRTCTexelInfo). getD (w .weight) i 0 ≤ 8) (sym (entry k l)) (low-if (g .is2bpp) (has k) (bytes k) i m);
       }
     where
       has : ℕ → ℕ
       has k = getD across (k % 3) 0 * getD down (k / 3) 0
 
       bytes : ℕ → List ℕ
-      bytes k = drop (8 * addressOf gx gy bx by k) d
+      bytes k = drop (8 * addressOf g bx by k) d
 
   -- where each block that has a share at a place has one by the rows, the texel there is the texel of all nine
-  pub needed-texel : (px py : ℕ) → px < blockWidth two → py < 4 → ((i : ℕ) → HasShare (half two) px i → 0 < getD across i 0) → ((j : ℕ) → HasShare 2 py j → 0 < getD down j 0)
-      → texelIn (half two) (nineOf (neededAbout two gx gy d bx by across down)) px py ≡ texelIn (half two) (about gx gy (wordsOf two gx gy d) bx by) px py
+  pub needed-texel : (px py : ℕ) → px < blockWidth (g .is2bpp) → py < 4 → ((i : ℕ) → HasShare (half (g .is2bpp)) px i → 0 < getD across i 0) → ((j : ℕ) → HasShare 2 py j → 0 < getD down j 0)
+      → texelIn (half (g .is2bpp)) (nineOf (neededAbout g d bx by across down)) px py ≡ texelIn (half (g .is2bpp)) (wordsAbout g d bx by) px py
   needed-texel px py lx ly a b =
-      texel-same (half two) px py (half-low two) lx ly (nineOf (neededAbout two gx gy d bx by across down)) (about gx gy (wordsOf two gx gy d) bx by) agree
+      texel-same (half (g .is2bpp)) px py (half-low (g .is2bpp)) lx ly (nineOf (neededAbout g d bx by across down)) (wordsAbout g d bx by) agree
     where
-      agree : (i j : ℕ) → HasShare (half two) px i → HasShare 2 py j → nineOf (neededAbout two gx gy d bx by across down) i j ≡ about gx gy (wordsOf two gx gy d) bx by i j
+      agree : (i j : ℕ) → HasShare (half (g .is2bpp)) px i → HasShare 2 py j → nineOf (neededAbout g d bx by across down) i j ≡ wordsAbout g d bx by i j
       agree i j hi hj =
           let li : i < 3 = hi .0 in
           let lj : j < 3 = hj .0 in
@@ -108,47 +109,47 @@ pub place : (two : Bool) (x y : ℕ) {w : ℕ} → w ≡ blockWidth two → Plac
 place two x y e = record { across = rw e (mod-lt x (omega (arith, half-low two))); down = omega arith }
 
 -- a texel from the words that it needs
-pub texel-needed : (two : Bool) (gx gy : ℕ) (d : List ℕ) (x y : ℕ) {w r : ℕ} {across down : List ℕ} {nine : List PVRTCTexelInfo} → w ≡ blockWidth two
-    → across ≡ shares (half two) (x % w) → down ≡ shares 2 (y % 4) → nine ≡ neededAbout two gx gy d (x / w) (y / 4) across down
-    → r ≡ packed (texelIn (half two) (nineOf nine) (x % w) (y % 4)) → r ≡ texelWord two gx gy d x y
+pub texel-needed : (g : Grid) (d : List ℕ) (x y : ℕ) {w r : ℕ} {across down : List ℕ} {nine : List PVRTCTexelInfo} → w ≡ blockWidth (g .is2bpp)
+    → across ≡ shares (half (g .is2bpp)) (x % w) → down ≡ shares 2 (y % 4) → nine ≡ neededAbout g d (x / w) (y / 4) across down
+    → r ≡ packed (texelIn (half (g .is2bpp)) (nineOf nine) (x % w) (y % 4)) → r ≡ gridTexel g d x y
 unfolding texelAt
-texel-needed two gx gy d x y ew ea ed en er =
-    let px : ℕ = x % blockWidth two in
-    let wide : 0 < blockWidth two = omega (arith, half-low two) in
+texel-needed g d x y ew ea ed en er =
+    let px : ℕ = x % blockWidth (g .is2bpp) in
+    let wide : 0 < blockWidth (g .is2bpp) = omega (arith, half-low (g .is2bpp)) in
     er
     ∙ rw (en, ea, ed, ew)
     (ap packed
-    (needed-texel two gx gy d (x / blockWidth two) (y / 4) (shares (half two) px) (shares 2 (y % 4)) px (y % 4) (mod-lt x wide) (omega arith)
-    (share-at (half two) px) (share-at 2 (y % 4))))
+    (needed-texel g d (x / blockWidth (g .is2bpp)) (y / 4) (shares (half (g .is2bpp)) px) (shares 2 (y % 4)) px (y % 4) (mod-lt x wide) (omega arith)
+    (share-at (half (g .is2bpp)) px) (share-at 2 (y % 4))))
 
 -- and from those that its row needs
-pub texel-of-row : (two : Bool) (gx gy : ℕ) (d : List ℕ) (x y : ℕ)
-    → packed (texelIn (half two) (nineOf (rowWords two gx gy d (x / blockWidth two) (y / 4) (y % 4))) (x % blockWidth two) (y % 4)) ≡ texelWord two gx gy d x y
+pub texel-of-row : (g : Grid) (d : List ℕ) (x y : ℕ)
+    → packed (texelIn (half (g .is2bpp)) (nineOf (rowWords g d (x / blockWidth (g .is2bpp)) (y / 4) (y % 4))) (x % blockWidth (g .is2bpp)) (y % 4)) ≡ gridTexel g d x y
 unfolding texelAt
-texel-of-row two gx gy d x y =
-    let px : ℕ = x % blockWidth two in
-    let wide : 0 < blockWidth two = omega (arith, half-low two) in
+texel-of-row g d x y =
+    let px : ℕ = x % blockWidth (g .is2bpp) in
+    let wide : 0 < blockWidth (g .is2bpp) = omega (arith, half-low (g .is2bpp)) in
     ap packed
-    (needed-texel two gx gy d (x / blockWidth two) (y / 4) every (shares 2 (y % 4)) px (y % 4) (mod-lt x wide) (omega arith) (every-at (half two) px) (share-at 2 (y % 4)))
+    (needed-texel g d (x / blockWidth (g .is2bpp)) (y / 4) every (shares 2 (y % 4)) px (y % 4) (mod-lt x wide) (omega arith) (every-at (half (g .is2bpp)) px) (share-at 2 (y % 4)))
 
 -- the words about a block become those about the next one
-module _ (two : Bool) (gx gy : ℕ) (d : List ℕ) (q bx by py : ℕ) (lq : q < gx) (e : bx ≡ beside gx q 2) where
+module _ (g : Grid) (d : List ℕ) (q bx by py : ℕ) (lq : q < g .across) (e : bx ≡ beside (g .across) q 2) where
   abbrev word : ℕ → ℕ → ℕ → PVRTCTexelInfo
-  word b i j = wordIf (1 * share 2 py j) (about gx gy (wordsOf two gx gy d) b by i j)
+  word b i j = wordIf (1 * share 2 py j) (wordsAbout g d b by i j)
 
   first : (j : ℕ) → word q 1 j ≡ word bx 0 j
-  first j = rw (e, beside-own gx q lq, back-again gx q lq)
+  first j = rw (e, beside-own (g .across) q lq, back-again (g .across) q lq)
 
   second : (j : ℕ) → word q 2 j ≡ word bx 1 j
-  second j = rw (← e, beside-own gx bx (rw e (beside-below gx q 2 (omega arith))))
+  second j = rw (← e, beside-own (g .across) bx (rw e (beside-below (g .across) q 2 (omega arith))))
 
-  pub slid-is : slid two gx gy d bx by py (rowWords two gx gy d q by py) ≡ rowWords two gx gy d bx by py
+  pub slid-is : slid g d bx by py (rowWords g d q by py) ≡ rowWords g d bx by py
   unfolding slid neededAbout tab
   slid-is = rw (first 0, first 1, first 2, second 0, second 1, second 2, one-mul (share 2 py 0), one-mul (share 2 py 1), one-mul (share 2 py 2))
 
 -- with what the calls inside give
-pub slid-to : (two : Bool) (gx gy : ℕ) (d : List ℕ) (bx by py : ℕ) (nine : List PVRTCTexelInfo) {row : List ℕ} {u v w : PVRTCTexelInfo} → row ≡ shares 2 py
-    → u ≡ wordIf (getD row 0 0) (wordAbout two gx gy d bx by 2) → v ≡ wordIf (getD row 1 0) (wordAbout two gx gy d bx by 5) → w ≡ wordIf (getD row 2 0) (wordAbout two gx gy d bx by 8)
-    → getD nine 1 blank ∷ getD nine 2 blank ∷ u ∷ getD nine 4 blank ∷ getD nine 5 blank ∷ v ∷ getD nine 7 blank ∷ getD nine 8 blank ∷ w ∷ [] ≡ slid two gx gy d bx by py nine
+pub slid-to : (g : Grid) (d : List ℕ) (bx by py : ℕ) (nine : List PVRTCTexelInfo) {row : List ℕ} {u v w : PVRTCTexelInfo} → row ≡ shares 2 py
+    → u ≡ wordIf (getD row 0 0) (wordAbout g d bx by 2) → v ≡ wordIf (getD row 1 0) (wordAbout g d bx by 5) → w ≡ wordIf (getD row 2 0) (wordAbout g d bx by 8)
+    → getD nine 1 blank ∷ getD nine 2 blank ∷ u ∷ getD nine 4 blank ∷ getD nine 5 blank ∷ v ∷ getD nine 7 blank ∷ getD nine 8 blank ∷ w ∷ [] ≡ slid g d bx by py nine
 unfolding slid
-slid-to two gx gy d bx by py nine er eu ev ew = rw (eu, ev, ew, er)
+slid-to g d bx by py nine er eu ev ew = rw (eu, ev, ew, er)

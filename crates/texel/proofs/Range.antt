@@ -11,7 +11,7 @@ use Rattle.word.proofs.Bounds.{weight-le}
 use Rattle.word.specs.declared.Fill.{Fill}
 use Rattle.word.specs.declared.Fill.the-variants.{Nothing, Around, AboveBelow, LeftRight}
 use Rattle.texel.specs.Texel.{Words, nineSum, blended, Pixel, packed, blend, near, filled, ruleAt, punched, mixed, texelIn, texelAt}
-use Rattle.texel.specs.Inner.{sumsTo, toBytes, pixel, Bytes}
+use Rattle.texel.specs.Inner.{sumsTo, toBytes, pixel, EightBits}
 use Rattle.texel.proofs.Blend.{between, bytes, word-below}
 use Rattle.texel.proofs.Nine.{small-side}
 use Rattle.texel.proofs.Shares.{half-low}
@@ -65,7 +65,7 @@ module _ (two : Bool) (of : ℕ → ℕ → List ℕ) where
     abbrev pub colorAt : (second : Bool) → Pixel
     colorAt second = pixel (toBytes (half two) (sumsTo (half two) words second px py 9))
 
-    color-bytes : (second : Bool) → Bytes (toBytes (half two) (sumsTo (half two) words second px py 9))
+    color-bytes : (second : Bool) → EightBits (toBytes (half two) (sumsTo (half two) words second px py 9))
     color-bytes second =
         bytes two (sumsTo (half two) words second px py 9)
         (sums-low (half two) words second px py lx ly 9 (omega arith) (λ k l. small-side two second (of (k % 3) (k / 3))))

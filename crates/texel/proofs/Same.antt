@@ -21,7 +21,7 @@ pub own-share : (h p : ℕ) → p < 2 * h → HasShare h p 1
 unfolding share
 own-share h p l = omega arith
 
--- the block of the three that holds a place of the strip
+-- the block of the three that holds a place of them
 third : (h x k : ℕ) → k * (2 * h) ≤ x → x < (k + 1) * (2 * h) → x / (2 * h) ≡ k
 third h x k l u = div-eq-of-lt-le (2 * h) l u
 

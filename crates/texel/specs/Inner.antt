@@ -6,7 +6,8 @@ use Prim.Native.Nat.{ℕ, _+_, _*_, _/_, _%_, _≤_, _<_}
 use lib.ListN.{getD}
 use Rattle.facts.specs.Sum.{sum}
 use Rattle.facts.specs.Tab.{tab}
-use Rattle.grid.specs.Grid.{blockWidth, Power}
+use Rattle.grid.specs.declared.Grid.{Grid}
+use Rattle.grid.specs.Grid.{blockWidth}
 use Rattle.word.specs.Word.{Small}
 use Rattle.word.specs.declared.Fill.the-variants.{Nothing}
 use Rattle.word.specs.declared.PVRTCTexelColor.{PVRTCTexelColor}
@@ -51,25 +52,21 @@ toBytes h s = record { r = scaleColor h (s .r); g = scaleColor h (s .g); b = sca
 abbrev pub pixel : PVRTCTexelColorInt → Pixel
 pixel s = record { r = s .r; g = s .g; b = s .b; a = s .a }
 
--- The nine words about block (bx, by), in row order.
-unfoldable pub nineAbout : Bool → ℕ → ℕ → List ℕ → ℕ → ℕ → List PVRTCTexelInfo
-nineAbout two gx gy d bx by = tab (λ k. about gx gy (wordsOf two gx gy d) bx by (k % 3) (k / 3)) 9
+-- The words about block (bx, by) of a grid that stand in a run of bytes, by column and row of the three by three.
+abbrev pub wordsAbout : Grid → List ℕ → ℕ → ℕ → Words
+wordsAbout g d bx by = about (g .across) (g .down) (wordsOf (g .is2bpp) (g .across) (g .down) d) bx by
 
--- A grid of gx by gy blocks whose words stand in a run of `len` bytes.
-pub record Grid (gx gy len : ℕ) : Type 0 where
-  pub power-across : Power gx
-  pub power-down : Power gy
-  pub across : gx ≤ 65536
-  pub down : gy ≤ 65536
-  pub enough : 8 * (gx * gy) ≤ len
+-- The nine of them, in row order.
+unfoldable pub nineAbout : Grid → List ℕ → ℕ → ℕ → List PVRTCTexelInfo
+nineAbout g d bx by = tab (λ k. wordsAbout g d bx by (k % 3) (k / 3)) 9
 
 -- A place of a block.
 pub record Place (two : Bool) (px py : ℕ) : Type 0 where
   pub across : px < blockWidth two
   pub down : py < 4
 
--- A place of the strip of three by three blocks.
-pub record Strip (two : Bool) (x y : ℕ) : Type 0 where
+-- A place of the three by three blocks, counted from the corner of the first.
+pub record InNine (two : Bool) (x y : ℕ) : Type 0 where
   pub across : x < 3 * blockWidth two
   pub down : y < 12
 
@@ -90,7 +87,7 @@ pub record Low (t : ℕ) (s : PVRTCTexelColorInt) : Type 0 where
   pub a : s .a ≤ 15 * t
 
 -- Four channels of 8 bits.
-pub record Bytes (s : PVRTCTexelColorInt) : Type 0 where
+pub record EightBits (s : PVRTCTexelColorInt) : Type 0 where
   pub r : s .r < 256
   pub g : s .g < 256
   pub b : s .b < 256

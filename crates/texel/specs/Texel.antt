@@ -7,6 +7,7 @@ use lib.Dec.{eqb}
 use lib.ListN.{getD, drop}
 use Rattle.facts.specs.Bits.{isSet}
 use Rattle.facts.specs.Sum.{sum}
+use Rattle.grid.specs.declared.Grid.{Grid}
 use Rattle.grid.specs.Grid.{half, blockAddress, beside}
 use Rattle.word.specs.Word.{wordOf}
 use Rattle.word.specs.declared.Fill.{Fill}
@@ -128,3 +129,7 @@ wordsOf two gx gy d bx by = wordOf two (drop (8 * blockAddress gx gy bx by) d)
 -- The texel (x, y), as a word, of a run of bytes whose grid is gx by gy.
 abbrev pub texelWord : Bool → ℕ → ℕ → List ℕ → ℕ → ℕ → ℕ
 texelWord two gx gy d x y = packed (texelAt (half two) gx gy (wordsOf two gx gy d) x y)
+
+-- The same of a grid by its description.
+abbrev pub gridTexel : Grid → List ℕ → ℕ → ℕ → ℕ
+gridTexel g d x y = texelWord (g .is2bpp) (g .across) (g .down) d x y

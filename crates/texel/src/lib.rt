@@ -13,7 +13,7 @@ ghost use mathlib.Core.Path.{_≡_};
 ghost use Prim.Native.Nat.{_*_, _≤_, _<_};
 ghost use Rattle.grid.specs.Grid.{half};
 ghost use Rattle.texel.specs.Texel.{blended, packed, blend, texelIn};
-ghost use Rattle.texel.specs.Inner.{nineOf, toBytes, pixel, Place, Read, Low, Bytes};
+ghost use Rattle.texel.specs.Inner.{nineOf, toBytes, pixel, Place, Read, Low, EightBits};
 ghost use Rattle.texel.specs.Summed.{shareRows, texelBy, LowWindow, LowWeights};
 use summing::shares_across;
 use summing::sum_across;
@@ -45,7 +45,7 @@ pub struct Window {
 // A colour's sums as 8 bits.
 fn scale(s: PVRTCTexelColorInt, is2bpp: bool) -> PVRTCTexelColorInt
     requires { ⌜ Low (8 * half is2bpp) s ⌝ }
-    ensures { λ r. ⌜ (r ≡ toBytes (half is2bpp) s) × Bytes r ⌝ }
+    ensures { λ r. ⌜ (r ≡ toBytes (half is2bpp) s) × EightBits r ⌝ }
 {
     if is2bpp {
         PVRTCTexelColorInt {
@@ -81,7 +81,7 @@ pub fn color(r: u8, g: u8, b: u8, a: u8) -> u32
 
 // The blend of A and B at the weight w.
 fn mix(a: PVRTCTexelColorInt, b: PVRTCTexelColorInt, w: u32, is_punched: bool) -> u32
-    requires { ⌜ Bytes a × Bytes b × (w ≤ 8) ⌝ }
+    requires { ⌜ EightBits a × EightBits b × (w ≤ 8) ⌝ }
     ensures { λ r. ⌜ r ≡ packed (blend (pixel a) (pixel b) w «is_punched») ⌝ }
 {
     let red = interpolate_color(a.r, b.r, w);

@@ -10,9 +10,11 @@ ghost use mathlib.Core.Path.{_≡_};
 ghost use Prim.Native.Nat.{_+_, _≤_, _<_};
 ghost use lib.ListN.{length};
 ghost use Rattle.grid.specs.Grid.{blockWidth, spreadTable};
-ghost use Rattle.texel.specs.Inner.{Grid, Read};
+ghost use Rattle.grid.specs.Words.{Stands, InGrid};
+ghost use Rattle.texel.specs.Inner.{Read};
 ghost use Rattle.texel.specs.Summed.{withTexels};
 ghost use Rattle.texel.specs.Needed.{rowWords, slid};
+use grid::Grid;
 use word::PVRTCTexelInfo;
 
 // `count` texels of the middle block of nine, from the place (px, py) on.
@@ -42,56 +44,40 @@ pub fn texels_in(
 pub fn first_words(
     table: &[u16; 256],
     data: &[u8],
-    num_blocks_x: usize,
-    num_blocks_y: usize,
-    is2bpp: bool,
+    g: Grid,
     bx: usize,
     by: usize,
     py: usize,
 ) -> [PVRTCTexelInfo; 9]
-    requires { ⌜ (now table ≡ spreadTable) × Grid «num_blocks_x» «num_blocks_y» (length (now «data»)) ⌝ }
-    requires { ⌜ (bx < «num_blocks_x») × (by < «num_blocks_y») × (py < 4) ⌝ }
-    ensures { λ r. ⌜ r ≡ rowWords is2bpp «num_blocks_x» «num_blocks_y» (now («data» .entry)) bx by py ⌝ }
+    requires { ⌜ (now table ≡ spreadTable) × Stands g (length (now «data»)) ⌝ }
+    requires { ⌜ InGrid g bx by × (py < 4) ⌝ }
+    ensures { λ r. ⌜ r ≡ rowWords g (now («data» .entry)) bx by py ⌝ }
 {
     let narrow = narrow_shares();
     let down = narrow[py];
     let across = [1u32, 1, 1];
-    needed_words(
-        table,
-        data,
-        num_blocks_x,
-        num_blocks_y,
-        is2bpp,
-        bx,
-        by,
-        &across,
-        &down,
-    )
+    needed_words(table, data, g, bx, by, &across, &down)
 }
 
 // From the nine words about the block before (bx, by), those about it.
 pub fn next_words(
     table: &[u16; 256],
     data: &[u8],
-    num_blocks_x: usize,
-    num_blocks_y: usize,
-    is2bpp: bool,
+    g: Grid,
     nine: [PVRTCTexelInfo; 9],
     bx: usize,
     by: usize,
     py: usize,
 ) -> [PVRTCTexelInfo; 9]
-    requires { ⌜ (now table ≡ spreadTable) × Grid «num_blocks_x» «num_blocks_y» (length (now «data»)) ⌝ }
-    requires { ⌜ (bx < «num_blocks_x») × (by < «num_blocks_y») × (py < 4) ⌝ }
-    ensures { λ r. ⌜ r ≡ slid is2bpp «num_blocks_x» «num_blocks_y» (now («data» .entry)) bx by py nine ⌝ }
+    requires { ⌜ (now table ≡ spreadTable) × Stands g (length (now «data»)) ⌝ }
+    requires { ⌜ InGrid g bx by × (py < 4) ⌝ }
+    ensures { λ r. ⌜ r ≡ slid g (now («data» .entry)) bx by py nine ⌝ }
 {
     let narrow = narrow_shares();
     let down = narrow[py];
-    let nx = num_blocks_x;
-    let ny = num_blocks_y;
-    let above = word_if(table, data, nx, ny, is2bpp, bx, by, 2, down[0]);
-    let beside = word_if(table, data, nx, ny, is2bpp, bx, by, 5, down[1]);
-    let below = word_if(table, data, nx, ny, is2bpp, bx, by, 8, down[2]);
+    let above = word_if(table, data, g, bx, by, 2, down[0]);
+    let beside = word_if(table, data, g, bx, by, 5, down[1]);
+    let below = word_if(table, data, g, bx, by, 8, down[2]);
     [
         nine[1],
         nine[2],

@@ -5,14 +5,14 @@ ghost use Rattle.facts.specs.Bits.{isSet};
 ghost use Rattle.grid.specs.Grid.{half, blockWidth};
 ghost use Rattle.texel.specs.Texel as spec;
 ghost use Rattle.texel.specs.Texel.{filled, ruleAt};
-ghost use Rattle.texel.specs.Inner.{Place, Strip};
+ghost use Rattle.texel.specs.Inner.{Place, InNine};
 ghost use Rattle.texel.specs.Summed.{weightsOf, onlyWeights, LowWeights};
 use word::Fill;
 use word::PVRTCTexelInfo;
 
-// Which of the nine blocks has the place (x, y) of their strip.
+// Which of the nine blocks has the place (x, y), counted from the corner of the first.
 fn block_of(is2bpp: bool, x: usize, y: usize) -> usize
-    requires { ⌜ Strip is2bpp x y ⌝ }
+    requires { ⌜ InNine is2bpp x y ⌝ }
     ensures { λ r. ⌜ (r ≡ 3 * (y / 4) + x / blockWidth is2bpp) × (r < 9) ⌝ }
 {
     if is2bpp {
@@ -57,9 +57,9 @@ pub fn weights_in(nine: [PVRTCTexelInfo; 9]) -> [[u8; 32]; 9]
     ]
 }
 
-// The weight stored at the place (x, y) of the strip.
+// The weight stored at the place (x, y) of the nine blocks.
 fn near(weights: &[[u8; 32]; 9], is2bpp: bool, x: usize, y: usize) -> u32
-    requires { ⌜ Strip is2bpp x y × LowWeights is2bpp (now weights) ⌝ }
+    requires { ⌜ InNine is2bpp x y × LowWeights is2bpp (now weights) ⌝ }
     ensures { λ r. ⌜ (r ≡ spec.near (half is2bpp) (onlyWeights (now (weights .entry))) x y) × (r ≤ 8) ⌝ }
 {
     let k = block_of(is2bpp, x, y);
@@ -69,7 +69,7 @@ fn near(weights: &[[u8; 32]; 9], is2bpp: bool, x: usize, y: usize) -> u32
 
 // The weight that a fill rule gives there.
 fn fill(rule: Fill, weights: &[[u8; 32]; 9], is2bpp: bool, x: usize, y: usize) -> u32
-    requires { ⌜ (0 < x) × (0 < y) × Strip is2bpp (x + 1) (y + 1) × LowWeights is2bpp (now weights) ⌝ }
+    requires { ⌜ (0 < x) × (0 < y) × InNine is2bpp (x + 1) (y + 1) × LowWeights is2bpp (now weights) ⌝ }
     ensures { λ r. ⌜ (r ≡ filled (half is2bpp) rule (onlyWeights (now (weights .entry))) x y) × (r ≤ 8) ⌝ }
 {
     match rule {

@@ -94,21 +94,21 @@ abbrev pub punchThroughWeight : ℕ → ℕ
 punchThroughWeight c = getD punchThroughWeights c 0
 
 -- 4bpp: the weight of texel i = 4y + x, in mode 1 if `one`.
-unfoldable pub weight4 : (one : Bool) → ℕ → ℕ → ℕ
-weight4 one m i = cond one (punchThroughWeight (code m i)) (standardWeight (code m i))
+unfoldable pub weight4bpp : (one : Bool) → ℕ → ℕ → ℕ
+weight4bpp one m i = cond one (punchThroughWeight (code m i)) (standardWeight (code m i))
 
 -- 4bpp: whether alpha becomes 0 at texel i: in mode 1, code 2.
-unfoldable pub punch4 : (one : Bool) → ℕ → ℕ → Bool
-punch4 one m i = one && eqb (code m i) 2
+unfoldable pub punch4bpp : (one : Bool) → ℕ → ℕ → Bool
+punch4bpp one m i = one && eqb (code m i) 2
 
 -- 4bpp: the record with the word's sixteen weights, and bit i of the flag set where texel i is punched through.
-abbrev pub withWeights4 : List ℕ → PVRTCTexelInfo → PVRTCTexelInfo
-withWeights4 d info =
+abbrev pub withWeights4bpp : List ℕ → PVRTCTexelInfo → PVRTCTexelInfo
+withWeights4bpp d info =
     record {
       a = info .a;
       b = info .b;
-      weight = tab (weight4 (mode d) (modulation d)) 16 ++ drop 16 (info .weight);
-      «punch_through_flag» = flags (punch4 (mode d) (modulation d)) 16;
+      weight = tab (weight4bpp (mode d) (modulation d)) 16 ++ drop 16 (info .weight);
+      «punch_through_flag» = flags (punch4bpp (mode d) (modulation d)) 16;
       fill = Nothing;
     }
 
@@ -126,28 +126,28 @@ adjusted w = bitAnd (w + 3) 8
 
 -- 2bpp, mode 1: the weight that texel i holds, the codes being in row order. It is this weight, adjusted, that a neighbour block's
 -- filling reads over the edge.
-unfoldable pub stored2 : ℕ → ℕ → ℕ
-stored2 m i =
+unfoldable pub stored2bpp : ℕ → ℕ → ℕ
+stored2bpp m i =
     cond (givesBit m i) (adjusted (standardWeight (code m (i / 2)))) (standardWeight (code m (i / 2)))
 
 -- 2bpp: the weight of texel i. In mode 1 it is 0 where the texel holds no code and is filled; in mode 0 bit i set means 8, else 0.
-unfoldable pub weight2 : (one : Bool) → ℕ → ℕ → ℕ
-weight2 one m i = cond one (cond (holdsCode i) (stored2 m i) 0) (cond (isSet m i) 8 0)
+unfoldable pub weight2bpp : (one : Bool) → ℕ → ℕ → ℕ
+weight2bpp one m i = cond one (cond (holdsCode i) (stored2bpp m i) 0) (cond (isSet m i) 8 0)
 
 -- 2bpp: how the others are filled in mode 1. Bit 0 clear, from all four neighbours; bits 0 and 20 set, from above and below; bit 0
 -- set alone, from left and right.
-unfoldable pub fill2 : (one : Bool) → ℕ → Fill
-fill2 one m = cond one (cond (isSet m 0) (cond (isSet m 20) AboveBelow LeftRight) Around) Nothing
+unfoldable pub fill2bpp : (one : Bool) → ℕ → Fill
+fill2bpp one m = cond one (cond (isSet m 0) (cond (isSet m 20) AboveBelow LeftRight) Around) Nothing
 
 -- 2bpp: the record with the word's 32 weights and its fill rule. No texel is punched through.
-abbrev pub withWeights2 : List ℕ → PVRTCTexelInfo → PVRTCTexelInfo
-withWeights2 d info =
+abbrev pub withWeights2bpp : List ℕ → PVRTCTexelInfo → PVRTCTexelInfo
+withWeights2bpp d info =
     record {
       a = info .a;
       b = info .b;
-      weight = tab (weight2 (mode d) (modulation d)) 32;
+      weight = tab (weight2bpp (mode d) (modulation d)) 32;
       «punch_through_flag» = 0;
-      fill = fill2 (mode d) (modulation d);
+      fill = fill2bpp (mode d) (modulation d);
     }
 
 -- The record before anything is read into it.
@@ -163,4 +163,4 @@ unread =
 
 -- The whole word, at 2bpp if `two`.
 unfoldable pub wordOf : (two : Bool) → List ℕ → PVRTCTexelInfo
-wordOf two d = cond two (withWeights2 d (withColors d unread)) (withWeights4 d (withColors d unread))
+wordOf two d = cond two (withWeights2bpp d (withColors d unread)) (withWeights4bpp d (withColors d unread))

@@ -7,7 +7,7 @@ ghost use mathlib.Core.Bool.{cond};
 ghost use Prim.Native.Nat.{_+_, _*_, _^_, _<_};
 ghost use lib.ListN.{getD};
 ghost use Rattle.word.specs.Word as spec;
-ghost use Rattle.word.specs.Word.{code, standardWeights, punchThroughWeights, punch4, withWeights4, stored2, weight2, fill2, withWeights2};
+ghost use Rattle.word.specs.Word.{code, standardWeights, punchThroughWeights, punch4bpp, withWeights4bpp, stored2bpp, weight2bpp, fill2bpp, withWeights2bpp};
 
 const PVRTC1_STANDARD_WEIGHT: [u8; 4] = [0, 3, 5, 8];
 
@@ -58,7 +58,7 @@ fn weight_4bpp(table: &[u8; 4], m: u32, i: usize) -> u8
 // 4bpp: bit i, where texel i is punched through, or 0.
 fn punch_4bpp(one: bool, m: u32, i: usize) -> u32
     requires { ⌜ i < 16 ⌝ }
-    ensures { λ r. ⌜ r ≡ cond (punch4 one m i) (2 ^ i) 0 ⌝ }
+    ensures { λ r. ⌜ r ≡ cond (punch4bpp one m i) (2 ^ i) 0 ⌝ }
 {
     if one {
         if (m >> (2 * i)) % 4 == 2 {
@@ -70,7 +70,7 @@ fn punch_4bpp(one: bool, m: u32, i: usize) -> u32
 
 // 4bpp: the word's weights, put into the record.
 pub fn get_texel_weights_4bpp(data: &[u8], info: PVRTCTexelInfo) -> PVRTCTexelInfo
-    ensures { λ r. ⌜ r ≡ withWeights4 (now («data» .entry)) info ⌝ }
+    ensures { λ r. ⌜ r ≡ withWeights4bpp (now («data» .entry)) info ⌝ }
 {
     let one = mode(data);
     let m = modulation(data);
@@ -95,7 +95,7 @@ pub fn get_texel_weights_4bpp(data: &[u8], info: PVRTCTexelInfo) -> PVRTCTexelIn
 // 2bpp, mode 1: the weight that texel i holds, where the table has what codes mean.
 fn stored_weight(table: &[u8; 4], m: u32, i: usize) -> u8
     requires { ⌜ (now table ≡ standardWeights) × (i < 32) ⌝ }
-    ensures { λ r. ⌜ r ≡ stored2 m i ⌝ }
+    ensures { λ r. ⌜ r ≡ stored2bpp m i ⌝ }
 {
     let c = ((m >> (2 * (i / 2))) % 4) as usize;
     let w = table[c];
@@ -113,7 +113,7 @@ fn stored_weight(table: &[u8; 4], m: u32, i: usize) -> u8
 // 2bpp: the weight of texel i, and 0 where it is to be filled.
 fn weight_2bpp(table: &[u8; 4], one: bool, m: u32, i: usize) -> u8
     requires { ⌜ (now table ≡ standardWeights) × (i < 32) ⌝ }
-    ensures { λ r. ⌜ r ≡ weight2 one m i ⌝ }
+    ensures { λ r. ⌜ r ≡ weight2bpp one m i ⌝ }
 {
     if one {
         if (i % 8 + i / 8) % 2 == 0 {
@@ -126,7 +126,7 @@ fn weight_2bpp(table: &[u8; 4], one: bool, m: u32, i: usize) -> u8
 
 // 2bpp: how the texels that hold no code are filled.
 fn fill_2bpp(one: bool, m: u32) -> Fill
-    ensures { λ r. ⌜ r ≡ fill2 one m ⌝ }
+    ensures { λ r. ⌜ r ≡ fill2bpp one m ⌝ }
 {
     if one {
         if m % 2 == 1 {
@@ -142,7 +142,7 @@ fn fill_2bpp(one: bool, m: u32) -> Fill
 
 // 2bpp: the word's weights and its fill rule, put into the record.
 pub fn get_texel_weights_2bpp(data: &[u8], info: PVRTCTexelInfo) -> PVRTCTexelInfo
-    ensures { λ r. ⌜ r ≡ withWeights2 (now («data» .entry)) info ⌝ }
+    ensures { λ r. ⌜ r ≡ withWeights2bpp (now («data» .entry)) info ⌝ }
 {
     let one = mode(data);
     let m = modulation(data);

@@ -1,81 +1,74 @@
 -- `paint::copy_block_buffer` meets its contract. The loop keeps that the first j rows of the block are laid. Assumes nothing.
-use mathlib.Core.Path.{_≡_, ap₂, _∙_}
-use Prim.Native.Nat.{ℕ, _+_, _-_, _*_, _≤_}
+use mathlib.Core.Path.{_≡_, refl}
+use Prim.Native.Nat.{ℕ, _+_, _-_, _*_, _≤_, _<_}
+use native.Mathlib.Nat.{mul-le-mul-right}
 use native.Mathlib.Omega.{arith}
 use lib.ListN.{getD}
-use borrow.Author.Needs.{needs}
-use Rattle.paint.proofs.Fitting.{source, target, small}
 use Rattle.paint.proofs.Laid.{Part, part-none, row-part}
-use Rattle.paint.specs.Paint.{painted}
+use Rattle.paint.proofs.Sheets.{row-in-room}
+use Rattle.paint.specs.declared.Sheet.{Sheet}
+use Rattle.paint.specs.Sheet.{Fits}
 use Rattle.paint.proofs.copy_block_buffer.Statement.{statement}
 use Rattle.paint.proofs.copy_block_buffer.Tie as tie
 
+-- a row of the block lies in the buffer
+in-buffer : {part : Sheet} {bw room : ℕ} → Fits part room × (part .width ≤ bw) × (part .height * bw ≤ 32) → (j : ℕ) → j < part .height
+    → j * bw + part .width ≤ 32
+in-buffer {part} {bw} p j l =
+    let row : j + 1 ≤ part .height = omega arith in
+    omega (arith, mul-le-mul-right bw row, p .1, p .2)
+
 abbrev Inv-loop : tie.InvT-loop
-Inv-loop bx by w h bw bh buffer image₀ x y-0 copy-width copy-height j₀ image j = (j ≤ copy-height) × Part (λ x y. getD buffer (y * bw + x) 0) image₀ (by * bh * w + bx * bw) w copy-width j image
+Inv-loop buffer bw part image₀ j₀ j-end image j =
+    (j ≤ part .height) × Part (λ x y. getD buffer (y * bw + x) 0) image₀ (part .start) (part .stride) (part .width) j image
 
 abbrev μ-loop : tie.MeasureT-loop
-μ-loop bx by w h bw bh buffer image₀ x y-0 copy-width copy-height j₀ image j = copy-height - j
-
-mul-x : tie.Need-mul-x Inv-loop μ-loop
-mul-x c = omega (arith, c .before .pre .starts-across)
-
-mul-y-0 : tie.Need-mul-y-0 Inv-loop μ-loop
-mul-y-0 c = omega (arith, c .before .pre .starts-down)
-
-sub-least : tie.Need-sub-least Inv-loop μ-loop
-sub-least c = omega (arith, c .before .pre .starts-across)
-
-least-requires : tie.Need-least-requires Inv-loop μ-loop
-least-requires c κs = search needs
-
-sub-least-2 : tie.Need-sub-least-2 Inv-loop μ-loop
-sub-least-2 c = omega (arith, c .before .before .pre .starts-down)
-
-least-requires-2 : tie.Need-least-requires-2 Inv-loop μ-loop
-least-requires-2 c κs = search needs
+μ-loop buffer bw part image₀ j₀ j-end image j = part .height - j
 
 loop-holds : tie.Need-loop-holds Inv-loop μ-loop
-loop-holds c = (omega arith, part-none _ _ _ _ _ (omega (arith, c .before .least .ensures)))
+loop-holds c = (omega arith, part-none _ _ _ _ _ (c .before .pre .0 .apart))
 
 mul-copy-words : tie.Need-mul-copy-words Inv-loop μ-loop
-mul-copy-words c = omega (arith, source (c .before .before .before .before .before .pre) (c .before .before .before .least .ensures) (c .before .before .least2 .ensures) (c .before .loop .j) (omega arith), target (c .before .before .before .before .before .pre) (c .before .before .before .least .ensures) (c .before .before .least2 .ensures) (c .before .loop .j) (omega arith), small (c .before .before .before .before .before .pre))
-
-add-copy-words : tie.Need-add-copy-words Inv-loop μ-loop
-add-copy-words c = omega (arith, source (c .before .before .before .before .before .before .pre) (c .before .before .before .before .least .ensures) (c .before .before .before .least2 .ensures) (c .before .before .loop .j) (omega arith), target (c .before .before .before .before .before .before .pre) (c .before .before .before .before .least .ensures) (c .before .before .before .least2 .ensures) (c .before .before .loop .j) (omega arith), small (c .before .before .before .before .before .before .pre))
+mul-copy-words c = omega (arith, in-buffer (c .before .before .before .pre) (c .before .loop .j) (c .loop-test .taken))
 
 mul-copy-words-2 : tie.Need-mul-copy-words-2 Inv-loop μ-loop
-mul-copy-words-2 c = omega (arith, source (c .before .before .before .before .before .before .pre) (c .before .before .before .before .least .ensures) (c .before .before .before .least2 .ensures) (c .before .before .loop .j) (omega arith), target (c .before .before .before .before .before .before .pre) (c .before .before .before .before .least .ensures) (c .before .before .before .least2 .ensures) (c .before .before .loop .j) (omega arith), small (c .before .before .before .before .before .before .pre))
+mul-copy-words-2 c =
+    let start = c .before .before .before .before .before in
+    omega (arith, row-in-room (start .pre .0) (c .before .before .before .loop .j) (c .before .before .loop-test .taken))
 
-add-copy-words-2 : tie.Need-add-copy-words-2 Inv-loop μ-loop
-add-copy-words-2 c = omega (arith, source (c .before .before .before .before .before .before .pre) (c .before .before .before .before .least .ensures) (c .before .before .before .least2 .ensures) (c .before .before .loop .j) (omega arith), target (c .before .before .before .before .before .before .pre) (c .before .before .before .before .least .ensures) (c .before .before .before .least2 .ensures) (c .before .before .loop .j) (omega arith), small (c .before .before .before .before .before .before .pre))
+add-copy-words : tie.Need-add-copy-words Inv-loop μ-loop
+add-copy-words c =
+    let start = c .before .before .before .before .before .before in
+    omega (arith, row-in-room (start .pre .0) (c .before .before .before .before .loop .j) (c .before .before .before .loop-test .taken))
 
 copy-words-requires : tie.Need-copy-words-requires Inv-loop μ-loop
 copy-words-requires c κs =
-    (source (c .before .before .before .before .before .before .pre) (c .before .before .before .before .least .ensures) (c .before .before .before .least2 .ensures) (c .before .before .loop .j) (omega arith), rw (c .before .before .loop .inv .1 .len) (omega (arith, target (c .before .before .before .before .before .before .pre) (c .before .before .before .before .least .ensures) (c .before .before .before .least2 .ensures) (c .before .before .loop .j) (omega arith), c .before .before .before .before .before .before .pre .roomy)))
+    let start = c .before .before .before .before .before .before in
+    let l = c .before .before .before .before .loop in
+    let taken = c .before .before .before .loop-test .taken in
+    (in-buffer (start .pre) (l .j) taken, rw (l .inv .1 .len) (omega (arith, row-in-room (start .pre .0) (l .j) taken)))
 
 add-j : tie.Need-add-j Inv-loop μ-loop
-add-j c = omega (arith, source (c .before .before .before .before .before .before .before .before .before .pre) (c .before .before .before .before .before .before .before .least .ensures) (c .before .before .before .before .before .before .least2 .ensures) (c .before .before .before .before .before .loop .j) (omega arith), target (c .before .before .before .before .before .before .before .before .before .pre) (c .before .before .before .before .before .before .before .least .ensures) (c .before .before .before .before .before .before .least2 .ensures) (c .before .before .before .before .before .loop .j) (omega arith), small (c .before .before .before .before .before .before .before .before .before .pre))
+add-j c = omega (arith, c .before .before .before .before .before .before .loop-test .taken)
 
 loop-less : tie.Need-loop-less Inv-loop μ-loop
-loop-less c = omega (arith, c .before .before .before .before .loop-test .taken)
+loop-less c = omega (arith, c .before .before .before .before .before .before .loop-test .taken)
 
 loop-again : tie.Need-loop-again Inv-loop μ-loop
 loop-again c =
-    let a = c .before .before .before .before .before .before .before .before .before in
-    let l = c .before .before .before .before .before .loop in (
-      omega (arith, c .before .before .before .before .loop-test .taken),
-      row-part (l .inv .1) (omega (arith, c .before .before .before .before .before .before .before .least .ensures)) (omega (arith, target (c .before .before .before .before .before .before .before .before .before .pre) (c .before .before .before .before .before .before .before .least .ensures) (c .before .before .before .before .before .before .least2 .ensures) (c .before .before .before .before .before .loop .j) (c .before .before .before .before .loop-test .taken), a .pre .roomy)) (omega arith) (c .before .before .copy-words .ensures),
-    )
+    let start = c .before .before .before .before .before .before .before .before .before in
+    let l = c .before .before .before .before .before .before .before .loop in
+    let taken = c .before .before .before .before .before .before .loop-test .taken in
+    (omega (arith, taken), row-part (l .inv .1) (start .pre .0 .apart) (row-in-room (start .pre .0) (l .j) taken) refl (c .before .before .copy-words .ensures))
 
 same-length : tie.Need-same-length Inv-loop μ-loop
 same-length c = c .before .loop .inv .1 .len
 
 returns : tie.Need-returns Inv-loop μ-loop
 returns c =
-    let a = c .before .before .before .before .before .args in
     let l = c .before .loop in
-    let all : l .j ≡ c .before .before .least2 .result = omega arith in
-    l .inv .1 .is ∙ ap₂ (λ (n m : ℕ). painted (a .by * a .bh * a .w + a .bx * a .bw) (a .w) n m (λ x y. getD (a .buffer .now) (y * a .bw + x) 0) (a .image .now)) (c .before .before .before .least .ensures) (all ∙ c .before .before .least2 .ensures)
+    let all : l .j ≡ c .before .before .before .args .part .height = omega (arith, c .loop-test .left, l .inv .0) in
+    (rw all at (l .inv .1)) .is
 
 pub copy-block-buffer-spec : {M : Type 1} → statement M
 copy-block-buffer-spec =
@@ -83,17 +76,10 @@ copy-block-buffer-spec =
     (tie.spec
     Inv-loop
     μ-loop
-    mul-x
-    mul-y-0
-    sub-least
-    least-requires
-    sub-least-2
-    least-requires-2
     loop-holds
     mul-copy-words
-    add-copy-words
     mul-copy-words-2
-    add-copy-words-2
+    add-copy-words
     copy-words-requires
     add-j
     loop-less

@@ -5,15 +5,15 @@ use mathlib.Core.List.{List}
 use Prim.Native.Nat.{ℕ}
 use denote.Ref.{now}
 use borrow.Author.Needs.{needs}
-use Rattle.word.specs.Word.{withColors, withWeights2, withWeights4, unread, wordOf}
+use Rattle.word.specs.Word.{withColors, withWeights2bpp, withWeights4bpp, unread, wordOf}
 use Rattle.word.specs.declared.PVRTCTexelInfo.{PVRTCTexelInfo}
 use Rattle.word.proofs.read_word.Statement.{statement}
 use Rattle.word.proofs.read_word.Tie as tie
 
 -- each reader works on what the one before it left
-whole : (two : Bool) (d : List ℕ) {i j r : PVRTCTexelInfo} → i ≡ unread → j ≡ withColors d i → r ≡ cond two (withWeights2 d j) (withWeights4 d j) → r ≡ wordOf two d
+whole : (two : Bool) (d : List ℕ) {i j r : PVRTCTexelInfo} → i ≡ unread → j ≡ withColors d i → r ≡ cond two (withWeights2bpp d j) (withWeights4bpp d j) → r ≡ wordOf two d
 unfolding wordOf
-whole two d u v w = w ∙ ap (λ (x : PVRTCTexelInfo). cond two (withWeights2 d x) (withWeights4 d x)) (v ∙ ap (withColors d) u)
+whole two d u v w = w ∙ ap (λ (x : PVRTCTexelInfo). cond two (withWeights2bpp d x) (withWeights4bpp d x)) (v ∙ ap (withColors d) u)
 
 unread-info-requires : tie.Need-unread-info-requires
 unread-info-requires c κs = search needs

@@ -22,15 +22,15 @@ needed-words-requires : tie.Need-needed-words-requires
 needed-words-requires c κs =
     let a = c .before .before .before .before .before .args in
     let p = c .before .before .before .before .before .pre in
-    let row = row-at 2 (a .py) (c .before .before .before .narrow-shares .ensures) (p .1 .2) in
-    (p .0, (p .1 .0, p .1 .1, few-every, rw row (few-shares 2 (a .py) (omega arith) (p .1 .2))))
+    let row = row-at 2 (a .py) (c .before .before .before .narrow-shares .ensures) (p .1 .1) in
+    (p .0, (p .1 .0, few-every, rw row (few-shares 2 (a .py) (omega arith) (p .1 .1))))
 
 returns : tie.Need-returns
 returns c =
     let a = c .before .before .before .before .before .before .args in
     let p = c .before .before .before .before .before .before .pre in
     c .needed-words .ensures
-    ∙ ap (neededAbout (a .is2bpp) (a .num-blocks-x) (a .num-blocks-y) (now (a .«data»)) (a .bx) (a .by) every) (row-at 2 (a .py) (c .before .before .before .before .narrow-shares .ensures) (p .1 .2))
+    ∙ ap (neededAbout (a .g) (now (a .«data»)) (a .bx) (a .by) every) (row-at 2 (a .py) (c .before .before .before .before .narrow-shares .ensures) (p .1 .1))
 
 pub first-words-spec : {M : Type 1} → statement M
 first-words-spec =

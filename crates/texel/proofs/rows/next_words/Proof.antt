@@ -33,29 +33,31 @@ array-read-word-if-3 c = search needs
 word-if-requires-3 : tie.Need-word-if-requires-3
 word-if-requires-3 c κs = search needs
 
-array-copy-out-t32 : tie.Need-array-copy-out-t32
-array-copy-out-t32 c = search needs
+array-copy-out-t28 : tie.Need-array-copy-out-t28
+array-copy-out-t28 c = search needs
 
-array-copy-out-t35 : tie.Need-array-copy-out-t35
-array-copy-out-t35 c = search needs
+array-copy-out-t31 : tie.Need-array-copy-out-t31
+array-copy-out-t31 c = search needs
 
-array-copy-out-t38 : tie.Need-array-copy-out-t38
-array-copy-out-t38 c = search needs
+array-copy-out-t34 : tie.Need-array-copy-out-t34
+array-copy-out-t34 c = search needs
 
-array-copy-out-t41 : tie.Need-array-copy-out-t41
-array-copy-out-t41 c = search needs
+array-copy-out-t37 : tie.Need-array-copy-out-t37
+array-copy-out-t37 c = search needs
 
-array-copy-out-t44 : tie.Need-array-copy-out-t44
-array-copy-out-t44 c = search needs
+array-copy-out-t40 : tie.Need-array-copy-out-t40
+array-copy-out-t40 c = search needs
 
-array-copy-out-t47 : tie.Need-array-copy-out-t47
-array-copy-out-t47 c = search needs
+array-copy-out-t43 : tie.Need-array-copy-out-t43
+array-copy-out-t43 c = search needs
 
 returns : tie.Need-returns
 returns c =
     let a = c .before .before .before .before .before .before .before .before .before .before .before .before .args in
     let p = c .before .before .before .before .before .before .before .before .before .before .before .before .pre in
-    slid-to (a .is2bpp) (a .num-blocks-x) (a .num-blocks-y) (now (a .«data»)) (a .bx) (a .by) (a .py) (a .t6) (row-at 2 (a .py) (c .before .before .before .before .before .before .before .before .before .before .narrow-shares .ensures) (p .1 .2)) (c .before .before .before .before .before .before .before .before .word-if .ensures) (c .before .before .before .before .before .before .before .word-if2 .ensures)
+    slid-to (a .g) (now (a .«data»)) (a .bx) (a .by) (a .py) (a .t4)
+    (row-at 2 (a .py) (c .before .before .before .before .before .before .before .before .before .before .narrow-shares .ensures) (p .1 .1))
+    (c .before .before .before .before .before .before .before .before .word-if .ensures) (c .before .before .before .before .before .before .before .word-if2 .ensures)
     (c .before .before .before .before .before .before .word-if3 .ensures)
 
 pub next-words-spec : {M : Type 1} → statement M
@@ -71,10 +73,10 @@ next-words-spec =
     word-if-requires-2
     array-read-word-if-3
     word-if-requires-3
-    array-copy-out-t32
-    array-copy-out-t35
-    array-copy-out-t38
-    array-copy-out-t41
-    array-copy-out-t44
-    array-copy-out-t47
+    array-copy-out-t28
+    array-copy-out-t31
+    array-copy-out-t34
+    array-copy-out-t37
+    array-copy-out-t40
+    array-copy-out-t43
     returns)

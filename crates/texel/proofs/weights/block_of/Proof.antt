@@ -3,7 +3,7 @@ use mathlib.Core.Bool.{true, false}
 use mathlib.Core.Path.{refl}
 use native.Mathlib.Omega.{arith}
 use borrow.Author.Needs.{needs}
-use Rattle.texel.specs.Inner.{Strip}
+use Rattle.texel.specs.Inner.{InNine}
 use Rattle.texel.proofs.weights.block_of.Statement.{statement}
 use Rattle.texel.proofs.weights.block_of.Tie as tie
 
@@ -21,12 +21,12 @@ add-result-2 c = search needs
 
 returns : tie.Need-returns
 returns c =
-    let p : Strip true (c .before .args .x) (c .before .args .y) = rw (c .if1 .taken) at (c .before .pre) in
+    let p : InNine true (c .before .args .x) (c .before .args .y) = rw (c .if1 .taken) at (c .before .pre) in
     rw (c .if1 .taken) (refl, omega (arith, p .across, p .down))
 
 returns-2 : tie.Need-returns-2
 returns-2 c =
-    let p : Strip false (c .before .args .x) (c .before .args .y) = rw (c .if1 .left) at (c .before .pre) in
+    let p : InNine false (c .before .args .x) (c .before .args .y) = rw (c .if1 .left) at (c .before .pre) in
     rw (c .if1 .left) (refl, omega (arith, p .across, p .down))
 
 pub block-of-spec : {M : Type 1} → statement M

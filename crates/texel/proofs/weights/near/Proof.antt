@@ -1,4 +1,4 @@
--- `texel::weights::near` meets its contract: the block and its texel are where the strip has the place. Assumes nothing.
+-- `texel::weights::near` meets its contract: the block and its texel are where the nine blocks have the place. Assumes nothing.
 use native.Mathlib.Omega.{arith}
 use denote.Ref.{now}
 use borrow.Author.Needs.{needs}

@@ -1,6 +1,6 @@
 -- `texel::words::address_by_table` meets its contract, as `address` does. Assumes nothing.
 use borrow.Author.Needs.{needs}
-use Rattle.grid.proofs.Address.{placed}
+use Rattle.grid.proofs.Words.{beside-in, placed-in}
 use Rattle.texel.proofs.Nine.{about-at}
 use Rattle.texel.proofs.words.address_by_table.Statement.{statement}
 use Rattle.texel.proofs.words.address_by_table.Tie as tie
@@ -16,19 +16,15 @@ least-requires c κs = search needs
 
 morton-index-by-table-requires : tie.Need-morton-index-by-table-requires
 morton-index-by-table-requires c κs =
-    let a = c .before .before .before .args in
-    let g = c .before .before .before .pre .1 .0 in (
-      c .before .before .before .pre .0,
-      rw (c .least .ensures)
-          (placed (a .num-blocks-x) (a .num-blocks-y) _ _ (g .power-across) (g .power-down) (g .across) (g .down) (c .before .before .beside .ensures .1) (c .before .beside2 .ensures .1)),
-    )
+    let start = c .before .before .before in
+    let s = start .pre .1 .0 in
+    (start .pre .0, rw (c .before .before .beside .ensures .0, c .before .beside2 .ensures .0) (placed-in s (beside-in s _ _ _ _) (c .least .ensures)))
 
 returns : tie.Need-returns
 returns c =
-    let a = c .before .before .before .before .args in
-    let x = c .before .before .before .beside .ensures in
-    let y = c .before .before .beside2 .ensures in
-    about-at (a .num-blocks-x) (a .num-blocks-y) _ (a .bx) (a .by) (a .k) _ _ _ _ (c .before .before .before .before .pre .1 .0) (x .0) (y .0) (x .1) (y .1) (c .before .least .ensures) (c .morton-index-by-table .ensures)
+    let start = c .before .before .before .before in
+    about-at (start .args .bx) (start .args .by) (start .args .k) (start .pre .1 .0) (c .before .before .before .beside .ensures .0)
+    (c .before .before .beside2 .ensures .0) (c .before .least .ensures) (c .morton-index-by-table .ensures)
 
 pub address-by-table-spec : {M : Type 1} → statement M
 address-by-table-spec =

@@ -11,11 +11,11 @@ use Rattle.texel.proofs.words.needed_words.Statement.{statement}
 use Rattle.texel.proofs.words.needed_words.Tie as tie
 
 abbrev Inv-loop : tie.InvT-loop
-Inv-loop table «data» num-blocks-x num-blocks-y is2bpp bx by across down nine₀ k₀ nine k =
-    (k ≤ 9) × Filled (λ k. wordIf (getD across (k % 3) 0 * getD down (k / 3) 0) (wordAbout is2bpp num-blocks-x num-blocks-y «data» bx by k)) nine₀ k nine
+Inv-loop table «data» g bx by across down nine₀ k₀ nine k =
+    (k ≤ 9) × Filled (λ k. wordIf (getD across (k % 3) 0 * getD down (k / 3) 0) (wordAbout g «data» bx by k)) nine₀ k nine
 
 abbrev μ-loop : tie.MeasureT-loop
-μ-loop table «data» num-blocks-x num-blocks-y is2bpp bx by across down nine₀ k₀ nine k = 9 - k
+μ-loop table «data» g bx by across down nine₀ k₀ nine k = 9 - k
 
 unread-info-requires : tie.Need-unread-info-requires Inv-loop μ-loop
 unread-info-requires c κs = search needs
@@ -39,7 +39,7 @@ mul-share-3 : tie.Need-mul-share-3 Inv-loop μ-loop
 mul-share-3 c =
     let p = c .before .before .before .before .before .before .pre .1 in
     let k = c .before .before .before .loop .k in
-    omega (arith, mul-le-mul (p .2 .few (k % 3) (omega arith)) (p .3 .few (k / 3) (omega arith)))
+    omega (arith, mul-le-mul (p .1 .few (k % 3) (omega arith)) (p .2 .few (k / 3) (omega arith)))
 
 word-if-requires : tie.Need-word-if-requires Inv-loop μ-loop
 word-if-requires c κs = search needs

@@ -6,18 +6,18 @@ use denote.Ref.{now}
 use lib.ListN.{drop}
 use borrow.Author.Needs.{needs}
 use Rattle.facts.proofs.Tab.{Filled, filled-none, filled-more, filled-end}
+use Rattle.grid.proofs.Words.{exact}
 use Rattle.word.specs.Word.{wordOf}
-use Rattle.texel.proofs.Nine.{exact}
 use Rattle.texel.specs.Inner.{nineAbout}
 use Rattle.texel.specs.Needed.{wordAbout}
 use Rattle.texel.proofs.words.nine_words.Statement.{statement}
 use Rattle.texel.proofs.words.nine_words.Tie as tie
 
 abbrev Inv-loop : tie.InvT-loop
-Inv-loop «data» num-blocks-x num-blocks-y is2bpp bx by nine₀ k₀ nine k = (k ≤ 9) × Filled (wordAbout is2bpp num-blocks-x num-blocks-y «data» bx by) nine₀ k nine
+Inv-loop «data» g bx by nine₀ k₀ nine k = (k ≤ 9) × Filled (wordAbout g «data» bx by) nine₀ k nine
 
 abbrev μ-loop : tie.MeasureT-loop
-μ-loop «data» num-blocks-x num-blocks-y is2bpp bx by nine₀ k₀ nine k = 9 - k
+μ-loop «data» g bx by nine₀ k₀ nine k = 9 - k
 
 unread-info-requires : tie.Need-unread-info-requires Inv-loop μ-loop
 unread-info-requires c κs = search needs
@@ -28,7 +28,7 @@ loop-holds c = (omega arith, filled-none _ _)
 address-requires : tie.Need-address-requires Inv-loop μ-loop
 address-requires c κs =
     let p = c .before .before .before .before .pre in
-    (exact _ _ _ (p .0), p .1, p .2, omega arith)
+    (exact (p .0), p .1, omega arith)
 
 word-at-requires : tie.Need-word-at-requires Inv-loop μ-loop
 word-at-requires c κs = omega (arith, c .address .ensures .1, c .before .before .before .before .before .pre .0 .enough)
@@ -48,7 +48,7 @@ loop-less c = omega arith
 loop-again : tie.Need-loop-again Inv-loop μ-loop
 loop-again c =
     let a = c .before .before .before .before .before .before .args in
-    let e = c .word-at .ensures ∙ ap (λ (z : ℕ). wordOf (a .is2bpp) (drop (8 * z) (now (a .«data»)))) (c .before .address .ensures .0) in
+    let e = c .word-at .ensures ∙ ap (λ (z : ℕ). wordOf (a .g .is2bpp) (drop (8 * z) (now (a .«data»)))) (c .before .address .ensures .0) in
     (omega arith, filled-more (c .before .before .before .loop .inv .1) e (omega arith))
 
 returns : tie.Need-returns Inv-loop μ-loop

@@ -10,19 +10,19 @@ use lib.ListN.{length}
 use borrow.Author.Needs.{needs}
 use Rattle.facts.specs.Tab.{tab}
 use Rattle.facts.proofs.Tab.{Filled, filled-none, filled-more, filled-end}
-use Rattle.word.specs.Word.{modulation, mode, weight2, fill2, withWeights2}
+use Rattle.word.specs.Word.{modulation, mode, weight2bpp, fill2bpp, withWeights2bpp}
 use Rattle.word.specs.declared.Fill.{Fill}
 use Rattle.word.specs.declared.PVRTCTexelInfo.{PVRTCTexelInfo}
 use Rattle.word.proofs.weights.get_texel_weights_2bpp.Statement.{statement}
 use Rattle.word.proofs.weights.get_texel_weights_2bpp.Tie as tie
 
 -- what the calls and the loop leave is the definition's record
-ends : (d : List ℕ) (i : PVRTCTexelInfo) {one : Bool} {m : ℕ} {w : List ℕ} {f : Fill} → one ≡ mode d → m ≡ modulation d → f ≡ fill2 one m → w ≡ tab (weight2 one m) 32
-    → record { a = i .a; b = i .b; weight = w; «punch_through_flag» = 0; fill = f } ≡ withWeights2 d i
+ends : (d : List ℕ) (i : PVRTCTexelInfo) {one : Bool} {m : ℕ} {w : List ℕ} {f : Fill} → one ≡ mode d → m ≡ modulation d → f ≡ fill2bpp one m → w ≡ tab (weight2bpp one m) 32
+    → record { a = i .a; b = i .b; weight = w; «punch_through_flag» = 0; fill = f } ≡ withWeights2bpp d i
 ends d i e k l h = cc
 
 abbrev Inv-loop : tie.InvT-loop
-Inv-loop «data» one m a b table weight₀ i₀ weight i = (i ≤ 32) × Filled (weight2 one m) weight₀ i weight
+Inv-loop «data» one m a b table weight₀ i₀ weight i = (i ≤ 32) × Filled (weight2bpp one m) weight₀ i weight
 
 abbrev μ-loop : tie.MeasureT-loop
 μ-loop «data» one m a b table weight₀ i₀ weight i = 32 - i

@@ -10,7 +10,7 @@ use lib.ListN.{length, getD}
 use borrow.Author.Needs.{needs}
 use Rattle.facts.proofs.Bits.{Flagged, flagged-none, flagged-more}
 use Rattle.facts.proofs.Tab.{Filled, filled-none, filled-more}
-use Rattle.word.specs.Word.{modulation, mode, code, standardWeights, punchThroughWeights, weight4, punch4, withWeights4}
+use Rattle.word.specs.Word.{modulation, mode, code, standardWeights, punchThroughWeights, weight4bpp, punch4bpp, withWeights4bpp}
 use Rattle.word.specs.declared.Fill.the-variants.{Nothing}
 use Rattle.word.specs.declared.PVRTCTexelInfo.{PVRTCTexelInfo}
 use Rattle.word.proofs.weights.get_texel_weights_4bpp.Statement.{statement}
@@ -18,18 +18,18 @@ use Rattle.word.proofs.weights.get_texel_weights_4bpp.Tie as tie
 
 -- what the calls and the loop leave is the definition's record
 ends : (d : List ℕ) (i : PVRTCTexelInfo) {one : Bool} {m n f : ℕ} {w : List ℕ} → n ≡ 16 → one ≡ mode d → m ≡ modulation d
-    → Filled (weight4 one m) (i .weight) n w → Flagged (punch4 one m) n f
-    → record { a = i .a; b = i .b; weight = w; «punch_through_flag» = f; fill = Nothing } ≡ withWeights4 d i
+    → Filled (weight4bpp one m) (i .weight) n w → Flagged (punch4bpp one m) n f
+    → record { a = i .a; b = i .b; weight = w; «punch_through_flag» = f; fill = Nothing } ≡ withWeights4bpp d i
 ends d i en e k h l = cc
 
 -- a weight read from the mode's table
-by-table : (one : Bool) (m i : ℕ) {v : ℕ} {table : List ℕ} → table ≡ cond one punchThroughWeights standardWeights → v ≡ getD table (code m i) 0 → v ≡ weight4 one m i
-unfolding weight4
+by-table : (one : Bool) (m i : ℕ) {v : ℕ} {table : List ℕ} → table ≡ cond one punchThroughWeights standardWeights → v ≡ getD table (code m i) 0 → v ≡ weight4bpp one m i
+unfolding weight4bpp
 by-table true m i e f = cc
 by-table false m i e f = cc
 
 abbrev Inv-loop : tie.InvT-loop
-Inv-loop «data» one m a b weight₀ table flag₀ i₀ weight flag i = (i ≤ 16) × Filled (weight4 one m) weight₀ i weight × Flagged (punch4 one m) i flag
+Inv-loop «data» one m a b weight₀ table flag₀ i₀ weight flag i = (i ≤ 16) × Filled (weight4bpp one m) weight₀ i weight × Flagged (punch4bpp one m) i flag
 
 abbrev μ-loop : tie.MeasureT-loop
 μ-loop «data» one m a b weight₀ table flag₀ i₀ weight flag i = 16 - i

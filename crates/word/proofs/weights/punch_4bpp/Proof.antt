@@ -4,7 +4,7 @@ use native.Mathlib.Omega.{arith}
 use lib.Pow.{pow-lt}
 use borrow.Author.Needs.{needs}
 use borrow.Author.Tests.{eq-eqb, ne-eqb}
-use Rattle.word.specs.Word.{punch4}
+use Rattle.word.specs.Word.{punch4bpp}
 use Rattle.word.proofs.weights.punch_4bpp.Statement.{statement}
 use Rattle.word.proofs.weights.punch_4bpp.Tie as tie
 
@@ -24,17 +24,17 @@ shl-result : tie.Need-shl-result
 shl-result c = search needs
 
 returns : tie.Need-returns
-unfolding punch4
+unfolding punch4bpp
 returns c =
     let h : 2 ^ (c .before .before .args .i) < 2 ^ 16 = pow-lt (c .before .before .pre) in
     rw (c .before .if1 .taken, eq-eqb _ _ (c .if2 .taken)) (omega arith)
 
 returns-2 : tie.Need-returns-2
-unfolding punch4
+unfolding punch4bpp
 returns-2 c = simp (c .before .if1 .taken, ne-eqb _ _ (c .if2 .left))
 
 returns-3 : tie.Need-returns-3
-unfolding punch4
+unfolding punch4bpp
 returns-3 c = rw (c .if1 .left)
 
 pub punch-4bpp-spec : {M : Type 1} → statement M

@@ -5,7 +5,7 @@ use native.Mathlib.Nat.{div-one}
 use native.Mathlib.Omega.{arith}
 use borrow.Author.Needs.{needs}
 use borrow.Author.Tests.{eq-eqb, ne-eqb}
-use Rattle.word.specs.Word.{stored2}
+use Rattle.word.specs.Word.{stored2bpp}
 use Rattle.word.proofs.Bounds.{standard-le}
 use Rattle.word.proofs.weights.stored_weight.Statement.{statement}
 use Rattle.word.proofs.weights.stored_weight.Tie as tie
@@ -29,22 +29,22 @@ add-result : tie.Need-add-result
 add-result c = rw (c .before .before .pre .0) (omega (arith, standard-le (c .before .before .args .m) (c .before .before .args .i / 2)))
 
 returns : tie.Need-returns
-unfolding stored2
+unfolding stored2bpp
 returns c = simp (c .before .before .pre .0, eq-eqb (c .before .before .args .i) 0 (omega arith))
 
 add-result-2 : tie.Need-add-result-2
 add-result-2 c = rw (c .before .before .before .before .pre .0) (omega (arith, standard-le (c .before .before .before .before .args .m) (c .before .before .before .before .args .i / 2)))
 
 returns-2 : tie.Need-returns-2
-unfolding stored2
+unfolding stored2bpp
 returns-2 c = simp (c .before .before .before .before .pre .0, div-one, ne-eqb _ _ (c .before .before .if1 .left), eq-eqb _ _ (c .before .if2 .taken), eq-eqb _ _ (c .if3 .taken))
 
 returns-3 : tie.Need-returns-3
-unfolding stored2
+unfolding stored2bpp
 returns-3 c = simp (c .before .before .before .before .pre .0, div-one, ne-eqb _ _ (c .before .before .if1 .left), eq-eqb _ _ (c .before .if2 .taken), ne-eqb _ _ (c .if3 .left))
 
 returns-4 : tie.Need-returns-4
-unfolding stored2
+unfolding stored2bpp
 returns-4 c = simp (c .before .before .before .pre .0, ne-eqb _ _ (c .before .if1 .left), ne-eqb _ _ (c .if2 .left))
 
 pub stored-weight-spec : {M : Type 1} → statement M

@@ -1,0 +1,47 @@
+-- `print_call` is safe: the bytes that it lends are at most as many as the array has. Assumes nothing.
+use native.Mathlib.Omega.{arith}
+use lib.ListN.{length-take}
+use borrow.Author.Needs.{needs}
+use Rattle.replay_texels.proofs.calls.print_call.Statement.{statement}
+use Rattle.replay_texels.proofs.calls.print_call.Tie as tie
+
+slice-aggregate-fill : tie.Need-slice-aggregate-fill
+slice-aggregate-fill c = search needs
+
+fill-requires : tie.Need-fill-requires
+fill-requires c κs = search needs
+
+least-requires : tie.Need-least-requires
+least-requires c κs = search needs
+
+print-question-requires : tie.Need-print-question-requires
+print-question-requires c κs = search needs
+
+array-share-prefix-data : tie.Need-array-share-prefix-data
+array-share-prefix-data c = search needs
+
+slice-aggregate-print-texel : tie.Need-slice-aggregate-print-texel
+slice-aggregate-print-texel c = simp length-take (omega arith)
+
+print-texel-requires : tie.Need-print-texel-requires
+print-texel-requires c κs = search needs
+
+end-line-requires : tie.Need-end-line-requires
+end-line-requires c κs = search needs
+
+returns : tie.Need-returns
+returns c = search needs
+
+pub print-call-spec : {M : Type 1} → statement M
+print-call-spec =
+    tie.close
+    (tie.spec
+    slice-aggregate-fill
+    fill-requires
+    least-requires
+    print-question-requires
+    array-share-prefix-data
+    slice-aggregate-print-texel
+    print-texel-requires
+    end-line-requires
+    returns)

@@ -1,0 +1,39 @@
+-- `print_picture` is safe: the bytes that it lends are at most as many as the array has. Assumes nothing.
+use native.Mathlib.Omega.{arith}
+use lib.ListN.{length-take}
+use borrow.Author.Needs.{needs}
+use Rattle.replay_texels.proofs.pictures.print_picture.Statement.{statement}
+use Rattle.replay_texels.proofs.pictures.print_picture.Tie as tie
+
+print-title-requires : tie.Need-print-title-requires
+print-title-requires c κs = search needs
+
+bytes-of-requires : tie.Need-bytes-of-requires
+bytes-of-requires c κs = search needs
+
+least-requires : tie.Need-least-requires
+least-requires c κs = search needs
+
+array-borrow-prefix-data : tie.Need-array-borrow-prefix-data
+array-borrow-prefix-data c = search needs
+
+slice-aggregate-print-drawn : tie.Need-slice-aggregate-print-drawn
+slice-aggregate-print-drawn c = simp length-take (omega arith)
+
+print-drawn-requires : tie.Need-print-drawn-requires
+print-drawn-requires c κs = search needs
+
+returns : tie.Need-returns
+returns c = search needs
+
+pub print-picture-spec : {M : Type 1} → statement M
+print-picture-spec =
+    tie.close
+    (tie.spec
+    print-title-requires
+    bytes-of-requires
+    least-requires
+    array-borrow-prefix-data
+    slice-aggregate-print-drawn
+    print-drawn-requires
+    returns)
