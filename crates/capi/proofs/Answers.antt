@@ -16,8 +16,10 @@ use Rattle.pvr.specs.Header.{bitsOf, headerRefusal, headerNumber, HeaderRead}
 use Rattle.pvr.specs.declared.Header.{Header}
 use Rattle.pvr.specs.declared.Header.the-variants.{Plate, Refused}
 use Rattle.pvr.specs.declared.HeaderRefusal.{HeaderRefusal}
-use Rattle.pvrtc.specs.Calls.{refusal, pictureTexel, TexelRead}
-use Rattle.pvrtc.specs.Refusals.{numberOf, texelNumber, texelValue, across, down}
+use Rattle.pvrtc.specs.Calls.{refusal, TexelRead, Written}
+use Rattle.pvrtc.specs.Picture.{gridOf, pictureTexel}
+use Rattle.pvrtc.specs.Refusals.{numberOf, decodedNumber, texelNumber, texelValue}
+use Rattle.pvrtc.specs.declared.Decoded.{Decoded}
 use Rattle.pvrtc.specs.declared.Call.the-variants as call
 use Rattle.pvrtc.specs.declared.Picture.{Picture}
 use Rattle.pvrtc.specs.declared.Refusal.{Refusal}
@@ -32,6 +34,10 @@ module _ (p : Picture) (d : List ℕ) (x y : ℕ) {r : Texel} (t : TexelRead p d
   pub of-refusal : {f : Refusal} {n : ℕ} → r ≡ texel.Refused f → n ≡ numberOf f → 4294967296 * n ≡ texelAnswer p d x y
   of-refusal e q = omega (arith, ap texelNumber e, ap texelValue e, t .number, t .value)
 
+-- a call that writes, its answer as a number
+pub of-written : {n : ℕ} {done old new : List ℕ} {r : Decoded} {v : ℕ} → v ≡ decodedNumber r → Written n done old new r → Wrote n done old new v
+of-written e w = record { number = e ∙ w .number; words = w .words }
+
 -- no two outcomes of a call that writes meet its promise
 pub one-wrote : {n r s : ℕ} {done old new new' : List ℕ} → Wrote n done old new r → Wrote n done old new' s → (r ≡ s) × (new ≡ new')
 one-wrote a b = (a .number ∙ sym (b .number), a .words ∙ sym (b .words))
@@ -39,7 +45,7 @@ one-wrote a b = (a .number ∙ sym (b .number), a .words ∙ sym (b .words))
 -- C takes the texel's answer apart again
 module _ (p : Picture) (d : List ℕ) (x y : ℕ) where
   below : pictureTexel p d x y < 4294967296
-  below = texel-below (p .is2bpp) (across p) (down p) (λ i j. drop (8 * blockAddress (across p) (down p) i j) d) x y
+  below = let g = gridOf p in texel-below (g .is2bpp) (g .across) (g .down) (λ i j. drop (8 * blockAddress (g .across) (g .down) i j) d) x y
 
   low : cond (eqb (refusal p (call.Texel x y) d) 0) (pictureTexel p d x y) 0 < 4294967296
   low = choice (λ (v : ℕ). v < 4294967296) (eqb (refusal p (call.Texel x y) d) 0) {a = pictureTexel p d x y} {b = 0} (λ _. below) (λ _. omega arith)
@@ -68,7 +74,8 @@ module _ (width height bits payload : ℕ) {field : ℕ} where
   no-other a b c d = rw (ne-eqb field 1 a) (rw (ne-eqb field 2 b) (rw (ne-eqb field 3 c) (rw (ne-eqb field 4 d) refl)))
 
 -- no field of an accepted header has number 0
-none-at-0 : (width height bits payload field : ℕ) → plateField width height bits payload field ≡ cond (eqb field 0) 0 (plateField width height bits payload field)
+none-at-0 : (width height bits payload field : ℕ)
+    → plateField width height bits payload field ≡ cond (eqb field 0) 0 (plateField width height bits payload field)
 none-at-0 width height bits payload zero = refl
 none-at-0 width height bits payload (suc k) = rw (ne-eqb (suc k) 0 (λ none. omega arith)) refl
 
@@ -85,4 +92,5 @@ module _ (file : List ℕ) (field : ℕ) {r : Header} (p : HeaderRead file r) wh
   pub field-of-plate : (w h at : ℕ) (two : Bool) {n : ℕ} → r ≡ Plate w h two at → n ≡ plateField w h (bitsOf two) at field → n ≡ headerField file field
   field-of-plate w h at two e q =
       let read : PlateRead file w h two at = of-plate (rw e at p) in
-      rw (read .accepted) (rw (sym (read .width)) (rw (sym (read .height)) (rw (sym (read .depth)) (rw (sym (read .payload)) (q ∙ none-at-0 w h (bitsOf two) at field)))))
+      rw (read .accepted) (rw (sym (read .width))
+      (rw (sym (read .height)) (rw (sym (read .depth)) (rw (sym (read .payload)) (q ∙ none-at-0 w h (bitsOf two) at field)))))

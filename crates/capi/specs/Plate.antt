@@ -6,8 +6,10 @@ use Prim.Native.Nat.{ℕ, _+_, _*_}
 use lib.Dec.{eqb}
 use lib.ListN.{length}
 use Rattle.paint.specs.Paint.{painted}
+use Rattle.paint.specs.Sheet.{onSheet}
 use Rattle.pvr.specs.Header.{headerRefusal, unlessRefused, widthField, heightField, bitsOf, isTwo, payloadOffset}
-use Rattle.pvrtc.specs.Calls.{picture, refusal, pictureTexel}
+use Rattle.pvrtc.specs.Calls.{refusal}
+use Rattle.pvrtc.specs.Picture.{picture, sheetOf, pictureTexel}
 use Rattle.pvrtc.specs.declared.Call.the-variants as call
 use Rattle.pvrtc.specs.declared.Picture.{Picture}
 
@@ -34,7 +36,7 @@ WroteRow p d y old new r =
 -- A picture: texel (x, y) at word y × width + x.
 abbrev pub WrotePicture : Picture → List ℕ → (old new : List ℕ) → ℕ → Type 0
 WrotePicture p d old new r =
-    Wrote (refusal p (call.Block (length old)) d) (painted 0 (p .width) (p .width) (p .height) (pictureTexel p d) old) old new r
+    Wrote (refusal p (call.Block (length old)) d) (onSheet (sheetOf p) (pictureTexel p d) old) old new r
 
 -- A field of an accepted header: 1 width, 2 height, 3 bits a texel, 4 the payload offset; any other is 0.
 abbrev pub plateField : (width height bits payload : ℕ) → ℕ → ℕ

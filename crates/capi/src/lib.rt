@@ -5,7 +5,19 @@ ghost use Rattle.pvrtc.specs.Refusals.{decodedNumber};
 ghost use Rattle.capi.specs.Plate.{plate, texelAnswer, WroteRow, WrotePicture, headerField, plateField};
 use pvr::Header;
 use pvrtc::Decoded;
+use pvrtc::Picture;
 use pvrtc::Texel;
+
+// The description of a picture by C's numbers: depth 0 is 4bpp, any other 2bpp.
+fn picture_of(width: u64, height: u64, depth: u32) -> Picture
+    ensures { λ r. ⌜ r ≡ plate width height depth ⌝ }
+{
+    Picture {
+        width: width as usize,
+        height: height as usize,
+        is2bpp: depth != 0,
+    }
+}
 
 // Texel (x, y): its word in the low 32 bits, the refusal's number above.
 #[no_mangle]
@@ -19,14 +31,8 @@ pub extern "C" fn plate_texel(
 ) -> u64
     ensures { λ r. ⌜ r ≡ texelAnswer (plate width height depth) (now («data» .entry)) x y ⌝ }
 {
-    let answer = pvrtc::decode_texel(
-        data,
-        width as usize,
-        height as usize,
-        depth != 0,
-        x as usize,
-        y as usize,
-    );
+    let p = picture_of(width, height, depth);
+    let answer = pvrtc::decode_texel(data, p, x as usize, y as usize);
     match answer {
         Texel::Word(word) => word as u64,
         Texel::Refused(f) => 4294967296 * pvrtc::refusal_number(f),
@@ -55,14 +61,8 @@ pub extern "C" fn plate_row(
 ) -> u64
     ensures { λ r. ⌜ WroteRow (plate width height depth) (now («data» .entry)) y (now (row .entry)) (now (row .exit)) r ⌝ }
 {
-    number_of(pvrtc::decode_row(
-        data,
-        width as usize,
-        height as usize,
-        depth != 0,
-        y as usize,
-        row,
-    ))
+    let p = picture_of(width, height, depth);
+    number_of(pvrtc::decode_row(data, p, y as usize, row))
 }
 
 // The whole picture into lent words.
@@ -76,7 +76,7 @@ pub extern "C" fn plate_picture(
 ) -> u64
     ensures { λ r. ⌜ WrotePicture (plate width height depth) (now («data» .entry)) (now (image .entry)) (now (image .exit)) r ⌝ }
 {
-    number_of(pvrtc::decode_pvrtc(data, width as usize, height as usize, image, depth != 0))
+    number_of(pvrtc::decode_picture(data, picture_of(width, height, depth), image))
 }
 
 // A field of a file's header.

@@ -15,13 +15,14 @@ use Rattle.pvrtc.specs.declared.Decoded.{Decoded}
 use Rattle.pvrtc.specs.declared.Decoded.the-variants.{Done, Refused}
 use Rattle.pvrtc.specs.declared.Picture.{Picture}
 use Rattle.pvrtc.specs.declared.Refusal.{Refusal}
-use Rattle.pvrtc.specs.Calls.{refusal, pictureTexel, BlockDecoded}
+use Rattle.pvrtc.specs.Calls.{refusal, BlockDecoded}
+use Rattle.pvrtc.specs.Picture.{pictureTexel}
 use Rattle.pvrtc.specs.Refusals.{numberOf, decodedNumber}
 use Rattle.pvrtc.proofs.Accepted.{width-above}
 use Rattle.pvrtc.proofs.Agree.{block-is}
 use Rattle.pvrtc.proofs.Unique.{number-above}
-use Rattle.convert.specs.Inner.{limitChecks, Laid}
-use Rattle.convert.specs.Output.{ownChecks, refusedLine, byteOf, tgaHeader, tgaOf, tga, written, Answered}
+use Rattle.convert.specs.Inner.{Laid}
+use Rattle.convert.specs.Output.{limitChecks, ownChecks, refusedLine, byteOf, tgaHeader, tgaOf, tga, written, Answered}
 use Rattle.convert.proofs.Limits.{kept, own-number, few-words, call-says}
 
 -- no two outcomes meet the promise
@@ -50,7 +51,8 @@ by-line {n} {p} {d} above l =
 pub tga-same : (w h : ℕ) (f g : ℕ → ℕ) → ((k : ℕ) → k < w * h → f k ≡ g k) → tgaOf w h f ≡ tgaOf w h g
 tga-same w h f g e =
     ap (λ (l : List ℕ). tgaHeader w h ++ l)
-    (tab-same (λ i. byteOf (f (i / 4)) (i % 4)) (λ i. byteOf (g (i / 4)) (i % 4)) (4 * (w * h)) (λ i l. ap (λ (v : ℕ). byteOf v (i % 4)) (e (i / 4) (omega arith))))
+    (tab-same (λ i. byteOf (f (i / 4)) (i % 4)) (λ i. byteOf (g (i / 4)) (i % 4)) (4 * (w * h))
+    (λ i l. ap (λ (v : ℕ). byteOf v (i % 4)) (e (i / 4) (omega arith))))
 
 -- word k of a decoded picture is texel (k % width, k / width)
 words-are : (p : Picture) (d : List ℕ) {image image' : List ℕ} → 0 < p .width → BlockDecoded p d image image' Done
@@ -68,7 +70,8 @@ module _ (p : Picture) (m : ℕ) (d : List ℕ) where
       let own : firstOf (ownChecks p m (length d)) ≡ n = own-number p m (length d) ∙ rw other (sym e) in
       rw own (by-line above l)
 
-  module _ {image image' : List ℕ} {decoded : Decoded} (none : firstOf (limitChecks p m) ≡ 0) (room : 131072 ≤ length image) (b : BlockDecoded p d image image' decoded) where
+  module _ {image image' : List ℕ} {decoded : Decoded} (none : firstOf (limitChecks p m) ≡ 0) (room : 131072 ≤ length image)
+      (b : BlockDecoded p d image image' decoded) where
     -- past the limits it is the block call that speaks
     as-called : firstOf (ownChecks p m (length d)) ≡ refusal p (call.Block (length image)) d
     as-called =

@@ -20,13 +20,15 @@ module _ (file image out : List ℕ) where
   few-bytes w h = without (rw (le-ltb (length image) 131072 w) (rw (lt-ltb (length out) 524306 h) refl))
 
   -- with enough
-  pub with-room : {image' out' : List ℕ} {r : ℕ} → 131072 ≤ length image → 524306 ≤ length out → Converted file image image' out out' r → ConvertedInRoom file image image' out out' r
+  pub with-room : {image' out' : List ℕ} {r : ℕ} → 131072 ≤ length image → 524306 ≤ length out → Converted file image image' out out' r
+      → ConvertedInRoom file image image' out out' r
   with-room w b c =
       let enough : roomy image out ≡ true = rw (le-ltb (length image) 131072 w) (rw (le-ltb (length out) 524306 b) refl) in
       record { done = λ _. c; too-little = λ e. absurd (true≢false (sym enough ∙ e)) }
 
 -- no two outcomes meet the promise
-pub one-in-room : {file image image₁ image₂ out out₁ out₂ : List ℕ} {r s : ℕ} → ConvertedInRoom file image image₁ out out₁ r → ConvertedInRoom file image image₂ out out₂ s
+pub one-in-room : {file image image₁ image₂ out out₁ out₂ : List ℕ} {r s : ℕ} → ConvertedInRoom file image image₁ out out₁ r
+    → ConvertedInRoom file image image₂ out out₂ s
     → (r ≡ s) × (out₁ ≡ out₂) × (image₁ ≡ image₂)
 one-in-room {file} {image} {image₁} {image₂} {out} {out₁} {out₂} {r} {s} a b = by (roomy image out) refl
   where

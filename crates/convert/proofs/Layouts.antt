@@ -9,7 +9,7 @@ use Rattle.facts.specs.Tab.{tab}
 use Rattle.facts.proofs.Tab.{length-tab}
 use Rattle.paint.specs.Paint.{painted}
 use Rattle.pvrtc.specs.declared.Picture.{Picture}
-use Rattle.pvrtc.specs.Calls.{pictureTexel}
+use Rattle.pvrtc.specs.Picture.{pictureTexel}
 use Rattle.convert.specs.Inner.{Laid}
 use Rattle.convert.specs.Output.{refusedLine, byteOf, tgaHeader, tgaOf, tga, laid}
 use Rattle.convert.proofs.Front.{laid-more}
@@ -28,7 +28,8 @@ low : (v : ℕ) → v % 256 ≡ byteOf v 0
 low v = omega arith
 
 -- a TGA's header
-pub header-bytes : (w h : ℕ) → 0 ∷ 0 ∷ 2 ∷ 0 ∷ 0 ∷ 0 ∷ 0 ∷ 0 ∷ 0 ∷ 0 ∷ 0 ∷ 0 ∷ (w % 256) ∷ (w / 256 % 256) ∷ (h % 256) ∷ (h / 256 % 256) ∷ 0x20 ∷ 0x28 ∷ [] ≡ tgaHeader w h
+pub header-bytes : (w h : ℕ)
+    → 0 ∷ 0 ∷ 2 ∷ 0 ∷ 0 ∷ 0 ∷ 0 ∷ 0 ∷ 0 ∷ 0 ∷ 0 ∷ 0 ∷ (w % 256) ∷ (w / 256 % 256) ∷ (h % 256) ∷ (h / 256 % 256) ∷ 0x20 ∷ 0x28 ∷ [] ≡ tgaHeader w h
 unfolding tgaHeader
 header-bytes w h = rw (low w, low h)
 

@@ -4,20 +4,19 @@ use mathlib.Core.Bool.{Bool, true, false, cond}
 use Prim.Native.Nat.{ℕ, _*_, _≤_, _<_}
 use native.Mathlib.Nat.{mul-le-mul, mul-le-mul-left}
 use native.Mathlib.Omega.{arith}
-use lib.Dec.{eqb, ltb, ltb→lt}
+use lib.Dec.{eqb, ltb}
 use borrow.Author.Tests.{ltb-false, le-ltb}
-use Rattle.facts.specs.Checks.{firstOf, at}
-use Rattle.facts.proofs.Checks.{none-holds, first-append}
-use Rattle.facts.proofs.Finite.{below}
+use Rattle.facts.specs.Checks.{firstOf, condition}
+use Rattle.facts.proofs.Checks.{none-said, first-append}
 use Rattle.facts.proofs.Or.{or-left, or-right}
 use Rattle.grid.specs.Grid.{blockWidth}
-use Rattle.grid.proofs.Counts.{blocks-le, blocks-cover}
+use Rattle.grid.proofs.Counts.{wide, blocks-cover}
 use Rattle.pvrtc.specs.declared.Call.the-variants as call
 use Rattle.pvrtc.specs.declared.Picture.{Picture}
-use Rattle.pvrtc.specs.Refusals.{across, down, need, zeroSide, largeSide, shortImage, outside, checks}
-use Rattle.pvrtc.proofs.Accepted.{wide}
-use Rattle.convert.specs.Inner.{limitChecks, dataChecks, TgaFits}
-use Rattle.convert.specs.Output.{longMetadata, longSide, largeNeed, ownChecks, Room}
+use Rattle.pvrtc.specs.Picture.{across, down}
+use Rattle.pvrtc.specs.Refusals.{need, zeroSide, largeSide, shortImage, outside, checks}
+use Rattle.convert.specs.Inner.{TgaFits}
+use Rattle.convert.specs.Output.{longMetadata, longSide, largeNeed, limitChecks, payloadChecks, ownChecks, Room}
 
 -- a number that is not above 0 is 0
 pub says-none : {n m : ℕ} → n ≡ m → n ≤ 0 → m ≡ 0
@@ -31,17 +30,16 @@ pub record Kept (p : Picture) (m : ℕ) : Type 0 where
   pub needed : largeNeed p ≡ false
 
 module _ (p : Picture) (m : ℕ) where
-  above : (k : ℕ) → k < 4 → 0 < at (limitChecks p m) k .number
-  above k h = ltb→lt 0 _ (below (λ k. ltb 0 (at (limitChecks p m) k .number)) 4 tt k h)
-
+  -- each by its number
   pub kept : firstOf (limitChecks p m) ≡ 0 → Kept p m
   kept e =
-      let none : (k : ℕ) → at (limitChecks p m) k .holds ≡ false = none-holds (limitChecks p m) above e in
-      record { metadata = none 0; sides = none 1; small = none 2; needed = none 3 }
+      let none : (n : ℕ) → condition (limitChecks p m) n ≡ false = none-said (limitChecks p m) tt e in
+      record { metadata = none 21; sides = none 1; small = none 22; needed = none 23 }
 
-  -- the limits speak first, and what the data says comes after them
-  pub own-number : (len : ℕ) → firstOf (ownChecks p m len) ≡ cond (eqb (firstOf (limitChecks p m)) 0) (firstOf (dataChecks p len)) (firstOf (limitChecks p m))
-  own-number len = first-append (limitChecks p m) (dataChecks p len) above
+  -- the limits speak first, and what the data and the grid say comes after them
+  pub own-number : (len : ℕ)
+      → firstOf (ownChecks p m len) ≡ cond (eqb (firstOf (limitChecks p m)) 0) (firstOf (payloadChecks p len)) (firstOf (limitChecks p m))
+  own-number len = first-append (limitChecks p m) (payloadChecks p len) tt
 
 -- equal plates with equal lengths are refused alike
 pub own-same : {p q : Picture} {m m' len len' : ℕ} → p ≡ q → m ≡ m' → len ≡ len' → firstOf (ownChecks p m len) ≡ firstOf (ownChecks q m' len')
@@ -59,13 +57,6 @@ module _ (p : Picture) (e : longSide p ≡ false) where
   pub not-large : largeSide p ≡ false
   not-large = rw (le-ltb 65536 (p .width) (omega (arith, width-small)), le-ltb 65536 (p .height) (omega (arith, height-small)))
 
-  -- and there are few blocks
-  pub few-blocks : across p * down p ≤ 1048576
-  few-blocks =
-      let x : across p ≤ 1024 = omega (arith, blocks-le (blockWidth (p .is2bpp)) (p .width) (wide (p .is2bpp)), width-small) in
-      let y : down p ≤ 1024 = omega (arith, blocks-le 4 (p .height) (omega arith), height-small) in
-      mul-le-mul x y
-
 narrow : (two : Bool) → blockWidth two ≤ 8
 narrow true = omega arith
 narrow false = omega arith
@@ -80,12 +71,13 @@ few-words p e =
 
 -- what the block call says of a plate that keeps the limits, into enough words: that the data is short, or that the blocks are no power of two
 pub call-says : (p : Picture) (room len : ℕ) → zeroSide p ≡ false → longSide p ≡ false → p .width * p .height ≤ room
-    → firstOf (checks p (call.Block room) len) ≡ firstOf (dataChecks p len)
+    → firstOf (checks p (call.Block room) len) ≡ firstOf (payloadChecks p len)
 unfolding firstOf shortImage outside
 call-says p room len z l fits = simp (z, not-large p l, le-ltb room (p .width * p .height) fits)
 
 -- the picture fits into enough words, and its TGA into enough bytes
-pub tga-fits : (p : Picture) (m : ℕ) {image out words : ℕ} → firstOf (limitChecks p m) ≡ 0 → Room image out → words ≡ image → TgaFits (p .width) (p .height) words out
+pub tga-fits : (p : Picture) (m : ℕ) {image out words : ℕ} → firstOf (limitChecks p m) ≡ 0 → Room image out → words ≡ image
+    → TgaFits (p .width) (p .height) words out
 tga-fits p m e r same =
     let k = kept p m e in
     let few = few-words p (k .needed) in

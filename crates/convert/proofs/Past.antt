@@ -18,8 +18,7 @@ use Rattle.pvrtc.specs.declared.Picture.{Picture}
 use Rattle.pvrtc.specs.Calls.{refusal}
 use Rattle.pvrtc.specs.Refusals.{need, shortData}
 use Rattle.pvrtc.proofs.Past.{picture-past}
-use Rattle.convert.specs.Inner.{limitChecks, dataChecks}
-use Rattle.convert.specs.Output.{plateOf, levelData, ownChecks, programRefusal, refusedLine, written, output}
+use Rattle.convert.specs.Output.{plateOf, levelData, limitChecks, payloadChecks, ownChecks, programRefusal, refusedLine, written, output}
 use Rattle.convert.proofs.Answers.{tga-same, written-line, written-tga}
 use Rattle.convert.proofs.Limits.{kept, own-same, call-says}
 use Rattle.convert.proofs.Said.{header-first, early, early-first, none-early, none-said}
@@ -50,7 +49,8 @@ module _ (file more : List ℕ) (whole : headerSize ≤ length file) where
   header-same =
       let long : headerSize ≤ length (file ++ more) = omega (arith, length-append file more) in
       let short : shortHeader (file ++ more) ≡ shortHeader file = le-ltb _ _ long ∙ sym (le-ltb _ _ whole) in
-      let start : notPvr (file ++ more) ≡ notPvr file = ap not (same-start (file ++ more) file version (omega arith) (omega arith) (λ i h. byte i (omega arith))) in
+      let start : notPvr (file ++ more) ≡ notPvr file = ap not
+      (same-start (file ++ more) file version (omega arith) (omega arith) (λ i h. byte i (omega arith))) in
       rw (short, start, format-same, plates-same)
 
   early-same : early (file ++ more) ≡ early file
@@ -69,7 +69,7 @@ module _ (file more : List ℕ) (whole : headerSize ≤ length file) where
       let here : programRefusal file ≡ early file = early-first file ∙ rw other in
       let there : programRefusal (file ++ more) ≡ early file =
       early-first (file ++ more)
-      ∙ ap (λ (n : ℕ). cond (eqb n 0) (firstOf (dataChecks (plateOf (file ++ more)) (length (levelData (file ++ more))))) n) early-same
+      ∙ ap (λ (n : ℕ). cond (eqb n 0) (firstOf (payloadChecks (plateOf (file ++ more)) (length (levelData (file ++ more))))) n) early-same
       ∙ rw other in
       written-line (programRefusal (file ++ more)) (plateOf (file ++ more)) (levelData (file ++ more)) (omega arith)
       ∙ ap refusedLine (there ∙ sym here)
@@ -122,7 +122,8 @@ module _ (file more : List ℕ) (enough : levelEnd file ≤ length file) where
           let zero : programRefusal file ≡ 0 = eqb-true (programRefusal file) 0 e in
           let none = none-said file zero in
           let k = kept p (metadataSize file) (none-early file (none .0)) in
-          let ok : refusal p (call.Block (p .width * p .height)) d ≡ 0 = call-says p (p .width * p .height) (length d) (k .sides) (k .small) (omega arith) ∙ none .1 in
+          let ok : refusal p (call.Block (p .width * p .height)) d ≡ 0 = call-says p (p .width * p .height) (length d) (k .sides) (k .small)
+          (omega arith) ∙ none .1 in
           written-tga (programRefusal file) p (d ++ more) zero
           ∙ tga-same (p .width) (p .height) _ _ (λ i l. picture-past p d more has (call.Block (p .width * p .height)) ok (i % p .width) (i / p .width))
           ∙ sym (written-tga (programRefusal file) p d zero)
@@ -134,7 +135,8 @@ module _ (file more : List ℕ) (enough : levelEnd file ≤ length file) where
 pub enough-read : (file : List ℕ) → output (take 36916 file) ≡ output file
 enough-read file =
     ⊎-elim
-    (λ more. let long : 36916 ≤ length file = omega (arith, more) in sym (cut (eqb (early front) 0) refl (length-take-le 36916 file long)) ∙ ap output (take-append-drop 36916 file))
+    (λ more. let long : 36916 ≤ length file = omega (arith, more) in sym (cut (eqb (early front) 0) refl (length-take-le 36916 file long)) ∙ ap
+    output (take-append-drop 36916 file))
     (λ few. ap output (take-all 36916 file few))
     (lt-or-le 36916 (length file))
   where
@@ -176,4 +178,5 @@ agree f g hf hg e =
     ends : levelEnd front ≡ k
     ends =
         let whole : headerSize ≤ length front = omega (arith, size) in
-        sym (ap₂ (λ (m : ℕ) (p : Picture). headerSize + m + need p) (metadata-same front (drop k f) whole) (plate-same front (drop k f) whole)) ∙ ap levelEnd f-is
+        sym (ap₂ (λ (m : ℕ) (p : Picture). headerSize + m + need p) (metadata-same front (drop k f) whole) (plate-same front (drop k f) whole)) ∙ ap
+        levelEnd f-is

@@ -5,15 +5,13 @@ use mathlib.Core.List.{List, [], _∷_, _++_}
 use mathlib.Core.Logic.{_↔_}
 use Prim.Native.Nat.{ℕ, _+_, _*_, _/_, _%_, _<_, _≤_}
 use native.Mathlib.Omega.{arith}
-use lib.Dec.{eqb, ltb, ltb→lt}
+use lib.Dec.{eqb, ltb}
 use lib.ListN.{length, take}
 use borrow.Author.Tests.{eqb-true, eqb-false}
-use Rattle.facts.specs.Checks.{firstOf, at, Given}
+use Rattle.facts.specs.Checks.{firstOf, Given}
 use Rattle.facts.proofs.Checks.{first-append, exactly-when}
-use Rattle.facts.proofs.Finite.{below}
 use Rattle.pvr.specs.Header.{widthField, heightField, metadataSize, headerChecks, headerRefusal}
-use Rattle.convert.specs.Inner.{limitChecks, dataChecks}
-use Rattle.convert.specs.Output.{plateOf, levelData, ownChecks, programChecks, programRefusal, refusedText, refusedLine, tga, output, Converted}
+use Rattle.convert.specs.Output.{plateOf, levelData, limitChecks, payloadChecks, ownChecks, programChecks, programRefusal, refusedText, refusedLine, tga, output, Converted}
 use Rattle.convert.proofs.Answers.{written-line, written-tga}
 use Rattle.convert.proofs.Front.{length-laid, in-front}
 use Rattle.convert.proofs.Layouts.{picture-length}
@@ -25,10 +23,10 @@ refused-when file n h = exactly-when (programChecks file) n h
 
 -- the header speaks first
 pub header-first : (file : List ℕ)
-    → programRefusal file ≡ cond (eqb (headerRefusal file) 0) (firstOf (ownChecks (plateOf file) (metadataSize file) (length (levelData file)))) (headerRefusal file)
+    → programRefusal file
+    ≡ cond (eqb (headerRefusal file) 0) (firstOf (ownChecks (plateOf file) (metadataSize file) (length (levelData file)))) (headerRefusal file)
 header-first file =
-    first-append (headerChecks file) (ownChecks (plateOf file) (metadataSize file) (length (levelData file)))
-    (λ k h. ltb→lt 0 _ (below (λ k. ltb 0 (at (headerChecks file) k .number)) 4 tt k h))
+    first-append (headerChecks file) (ownChecks (plateOf file) (metadataSize file) (length (levelData file))) tt
 
 -- and the limits next: what is said before the data is asked
 abbrev pub early : List ℕ → ℕ
@@ -41,11 +39,12 @@ nested a b c = by (eqb a 0) refl
     by true e = refl
     by false e = rw e
 
-pub early-first : (file : List ℕ) → programRefusal file ≡ cond (eqb (early file) 0) (firstOf (dataChecks (plateOf file) (length (levelData file)))) (early file)
+pub early-first : (file : List ℕ)
+    → programRefusal file ≡ cond (eqb (early file) 0) (firstOf (payloadChecks (plateOf file) (length (levelData file)))) (early file)
 early-first file =
     header-first file
     ∙ ap (λ (n : ℕ). cond (eqb (headerRefusal file) 0) n (headerRefusal file)) (own-number (plateOf file) (metadataSize file) (length (levelData file)))
-    ∙ nested (headerRefusal file) (firstOf (limitChecks (plateOf file) (metadataSize file))) (firstOf (dataChecks (plateOf file) (length (levelData file))))
+    ∙ nested (headerRefusal file) (firstOf (limitChecks (plateOf file) (metadataSize file))) (firstOf (payloadChecks (plateOf file) (length (levelData file))))
 
 -- of two numbers, the first or else the second, neither is said where the choice is 0
 both-none : (a b : ℕ) → cond (eqb a 0) b a ≡ 0 → (a ≡ 0) × (b ≡ 0)
@@ -58,8 +57,8 @@ both-none a b e = by (eqb a 0) refl e
 pub none-early : (file : List ℕ) → early file ≡ 0 → firstOf (limitChecks (plateOf file) (metadataSize file)) ≡ 0
 none-early file e = both-none (headerRefusal file) (firstOf (limitChecks (plateOf file) (metadataSize file))) e .1
 
-pub none-said : (file : List ℕ) → programRefusal file ≡ 0 → (early file ≡ 0) × (firstOf (dataChecks (plateOf file) (length (levelData file))) ≡ 0)
-none-said file e = both-none (early file) (firstOf (dataChecks (plateOf file) (length (levelData file)))) (sym (early-first file) ∙ e)
+pub none-said : (file : List ℕ) → programRefusal file ≡ 0 → (early file ≡ 0) × (firstOf (payloadChecks (plateOf file) (length (levelData file))) ≡ 0)
+none-said file e = both-none (early file) (firstOf (payloadChecks (plateOf file) (length (levelData file)))) (sym (early-first file) ∙ e)
 
 -- the line of a refusal has 10 or 11 bytes
 line-length : (n : ℕ) → length (refusedLine n) ≤ 11
@@ -78,7 +77,8 @@ output-fits file = by (eqb (programRefusal file) 0) refl
     by true e =
         let none = none-said file (eqb-true (programRefusal file) 0 e) in
         let few = few-words (plateOf file) (kept (plateOf file) (metadataSize file) (none-early file (none .0)) .needed) in
-        let size : length (tga (plateOf file) (levelData file)) ≡ 18 + 4 * (widthField file * heightField file) = picture-length (plateOf file) (levelData file) in
+        let size : length (tga (plateOf file) (levelData file)) ≡ 18 + 4 * (widthField file * heightField file) = picture-length (plateOf file)
+        (levelData file) in
         rw (written-tga (programRefusal file) (plateOf file) (levelData file) (eqb-true (programRefusal file) 0 e)) (omega (arith, size, few))
     by false e =
         let other : programRefusal file ≡ 0 → ⊥ = eqb-false (programRefusal file) 0 e in
@@ -86,8 +86,11 @@ output-fits file = by (eqb (programRefusal file) 0) refl
 
 -- so it lies within lent bytes that are enough, and stands there from the first on
 module _ (file : List ℕ) {image image' out out' : List ℕ} {r : ℕ} (a : Converted file image image' out out' r) (room : 524306 ≤ length out) where
+  fits : length (output file) ≤ length out
+  fits = omega (arith, output-fits file)
+
   pub within-out : r ≤ length out'
-  within-out = omega (arith, a .size, output-fits file, ap length (a .bytes), length-laid (output file) out)
+  within-out = omega (arith, a .size, output-fits file, ap length (a .bytes), length-laid (output file) out fits)
 
   pub is-output : take r out' ≡ output file
-  is-output = rw (a .size, a .bytes) (in-front (output file) out (omega (arith, output-fits file)))
+  is-output = rw (a .size, a .bytes) (in-front (output file) out)

@@ -18,7 +18,7 @@ use Rattle.pvr.specs.declared.HeaderRefusal.the-variants.{ShortHeader, NotPvr, 
 use Rattle.pvr.specs.Header.{metadataSize, headerRefusal, numberOf, headerNumber, HeaderRead}
 use Rattle.pvr.proofs.Answers.{PlateRead, of-plate, number-above}
 use Rattle.pvrtc.specs.declared.Picture.{Picture}
-use Rattle.pvrtc.specs.Calls.{picture}
+use Rattle.pvrtc.specs.Picture.{picture}
 use Rattle.convert.specs.Inner.{Laid}
 use Rattle.convert.specs.Output.{plateOf, levelData, ownChecks, programRefusal, refusedLine, Answered, Converted}
 use Rattle.convert.proofs.Answers.{by-line}

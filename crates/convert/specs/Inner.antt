@@ -1,21 +1,11 @@
 -- What the functions inside ask and promise one another. Assumes nothing: these are definitions.
 use mathlib.Core.Path.{_≡_}
-use mathlib.Core.List.{List, [], _∷_}
+use mathlib.Core.List.{List}
 use Prim.Native.Nat.{ℕ, _+_, _*_, _≤_}
 use lib.ListN.{length}
-use Rattle.facts.specs.Checks.{Check, check, firstOf}
-use Rattle.pvrtc.specs.Refusals.{zeroSide, shortData, notPower}
+use Rattle.facts.specs.Checks.{firstOf}
 use Rattle.pvrtc.specs.declared.Picture.{Picture}
-use Rattle.convert.specs.Output.{longMetadata, longSide, largeNeed, ownChecks, laid, Answered}
-
--- The first four of the program's own refusals, which ask only the header's numbers.
-abbrev pub limitChecks : Picture → (metadata : ℕ) → List Check
-limitChecks p metadata =
-    check (longMetadata metadata) 21 ∷ check (zeroSide p) 1 ∷ check (longSide p) 22 ∷ check (largeNeed p) 23 ∷ []
-
--- The last two, which the block call says.
-abbrev pub dataChecks : Picture → (len : ℕ) → List Check
-dataChecks p len = check (shortData p len) 3 ∷ check (notPower p) 5 ∷ []
+use Rattle.convert.specs.Output.{ownChecks, laid, Answered}
 
 -- What is promised of a plate whose header is accepted.
 abbrev pub PlateConverted : Picture → (metadata : ℕ) → (d image image' out out' : List ℕ) → ℕ → Type 0

@@ -5,13 +5,13 @@ use mathlib.Core.Bool.{Bool, true, false, cond, not, _&&_, _||_}
 use mathlib.Core.List.{List, [], _∷_, _++_}
 use Prim.Native.Nat.{ℕ, _+_, _*_, _/_, _%_, _^_, _≤_}
 use lib.Dec.{eqb, ltb}
-use lib.ListN.{length, getD, drop}
+use lib.ListN.{length, drop}
 use Rattle.facts.specs.Checks.{Check, check, firstOf}
 use Rattle.facts.specs.Tab.{tab}
-use Rattle.paint.specs.Paint.{painted}
+use Rattle.paint.specs.Sheet.{onSheet}
 use Rattle.pvr.specs.Header.{widthField, heightField, metadataSize, isTwo, payloadOffset, headerChecks}
-use Rattle.pvrtc.specs.Calls.{picture, pictureTexel}
-use Rattle.pvrtc.specs.Refusals.{need, zeroSide, shortData, notPower}
+use Rattle.pvrtc.specs.Picture.{picture, sheetOf, pictureTexel}
+use Rattle.pvrtc.specs.Refusals.{need, zeroSide, dataChecks, gridChecks}
 use Rattle.pvrtc.specs.declared.Picture.{Picture}
 
 -- The plate that a header describes.
@@ -34,16 +34,18 @@ longSide p = ltb 1024 (p .width) || ltb 1024 (p .height)
 abbrev pub largeNeed : Picture → Bool
 largeNeed p = ltb 32768 (need p)
 
--- The program's own refusals of a plate with so many bytes of metadata and `len` bytes of data, in their order.
+-- The program's own limits on a plate with so many bytes of metadata.
+abbrev pub limitChecks : Picture → (metadata : ℕ) → List Check
+limitChecks p metadata =
+    check (longMetadata metadata) 21 ∷ check (zeroSide p) 1 ∷ check (longSide p) 22 ∷ check (largeNeed p) 23 ∷ []
+
+-- What the block call can still refuse past them: the data, and then the grid.
+abbrev pub payloadChecks : Picture → (len : ℕ) → List Check
+payloadChecks p len = dataChecks p len ++ gridChecks p
+
+-- The refusals of a plate with `len` bytes of data, in their order.
 abbrev pub ownChecks : Picture → (metadata len : ℕ) → List Check
-ownChecks p metadata len =
-    check (longMetadata metadata) 21
-    ∷ check (zeroSide p) 1
-    ∷ check (longSide p) 22
-    ∷ check (largeNeed p) 23
-    ∷ check (shortData p len) 3
-    ∷ check (notPower p) 5
-    ∷ []
+ownChecks p metadata len = limitChecks p metadata ++ payloadChecks p len
 
 -- The refusals of the program, in their order: the header's, then its own.
 abbrev pub programChecks : List ℕ → List Check
@@ -95,16 +97,16 @@ written n p d = cond (eqb n 0) (tga p d) (refusedLine n)
 abbrev pub output : List ℕ → List ℕ
 output file = written (programRefusal file) (plateOf file) (levelData file)
 
--- Lent bytes with these in front; the rest stay as they were.
+-- Lent bytes with these in front: these, followed by the rest as it was.
 abbrev pub laid : List ℕ → List ℕ → List ℕ
-laid bytes old = painted 0 (length bytes) (length bytes) 1 (λ i _. getD bytes i 0) old
+laid bytes old = bytes ++ drop (length bytes) old
 
 -- How many bytes of `out` are to be written, and the lent bytes and words afterwards: what is written stands in front, and the words are
 -- the picture's where n is 0, else as they were.
 pub record Answered (n : ℕ) (p : Picture) (d : List ℕ) (image image' out out' : List ℕ) (r : ℕ) : Type 0 where
   pub size : r ≡ length (written n p d)
   pub bytes : out' ≡ laid (written n p d) out
-  pub words : image' ≡ cond (eqb n 0) (painted 0 (p .width) (p .width) (p .height) (pictureTexel p d) image) image
+  pub words : image' ≡ cond (eqb n 0) (onSheet (sheetOf p) (pictureTexel p d) image) image
 
 -- What `convert` asks: the lent words and bytes are enough for the largest picture that the limits let through.
 pub record Room (image out : ℕ) : Type 0 where

@@ -1,50 +1,35 @@
 // What the program `plate` writes for a file: a picture as a TGA, or the line of a refusal.
 ghost use mathlib.Core.Path.{_≡_};
-ghost use mathlib.Core.Bool.{_||_};
-ghost use Prim.Native.Nat.{_+_, _*_, _/_, _%_, _<_, _≤_, min};
-ghost use lib.Dec.{eqb, ltb};
+ghost use Prim.Native.Nat.{_+_, _*_, _/_, _%_, _<_, _≤_};
 ghost use lib.ListN.{length, getD};
 ghost use Rattle.facts.specs.Checks.{firstOf};
 ghost use Rattle.paint.specs.Paint.{painted};
-ghost use Rattle.pvrtc.specs.Calls.{picture};
-ghost use Rattle.convert.specs.Output.{refusedLine, byteOf, tgaHeader, tgaOf, laid, Room, Converted, ConvertedInRoom};
-ghost use Rattle.convert.specs.Inner.{limitChecks, PlateConverted, Laid, TgaFits};
+ghost use Rattle.convert.specs.Output.{longSide, limitChecks, refusedLine, byteOf, tgaHeader, tgaOf, laid, Room, Converted, ConvertedInRoom};
+ghost use Rattle.convert.specs.Inner.{PlateConverted, Laid, TgaFits};
 use pvr::Header;
 use pvrtc::Decoded;
+use pvrtc::Picture;
 
-fn least(a: usize, b: usize) -> usize
-    ensures { λ r. ⌜ r ≡ min a b ⌝ }
+fn has_long_side(p: Picture) -> bool
+    ensures { λ r. ⌜ r ≡ longSide p ⌝ }
 {
-    if a < b { a } else { b }
+    p.width > 1024 || p.height > 1024
 }
 
-fn has_zero_side(width: usize, height: usize) -> bool
-    ensures { λ r. ⌜ r ≡ (eqb width 0 || eqb height 0) ⌝ }
-{
-    width == 0 || height == 0
-}
-
-fn has_long_side(width: usize, height: usize) -> bool
-    ensures { λ r. ⌜ r ≡ (ltb 1024 width || ltb 1024 height) ⌝ }
-{
-    width > 1024 || height > 1024
-}
-
-// The number of the first of the program's limits that a header does not keep: 0 for none.
-fn limit_refusal(width: usize, height: usize, is2bpp: bool, metadata: usize) -> u64
-    ensures { λ r. ⌜ (r ≡ firstOf (limitChecks (picture width height is2bpp) metadata)) × (r ≤ 23) ⌝ }
+// The number of the first of the program's limits that a plate does not keep: 0 for none.
+fn limit_refusal(p: Picture, metadata: usize) -> u64
+    ensures { λ r. ⌜ (r ≡ firstOf (limitChecks p metadata)) × (r ≤ 23) ⌝ }
 {
     if metadata > 4096 {
         return 21;
     }
-    if has_zero_side(width, height) {
+    if pvrtc::has_zero_side(p) {
         return 1;
     }
-    if has_long_side(width, height) {
+    if has_long_side(p) {
         return 22;
     }
-    let blocks = grid::num_blocks_x(width, is2bpp) * grid::num_blocks_y(height);
-    if 8 * blocks > 32768 {
+    if grid::need_of(pvrtc::grid_of(p)) > 32768 {
         return 23;
     }
     0
@@ -163,22 +148,20 @@ fn put_tga(w: usize, h: usize, words: &[u32], out: &mut [u8]) -> usize
 fn convert_plate(
     data: &[u8],
     metadata: usize,
-    width: usize,
-    height: usize,
-    is2bpp: bool,
+    p: Picture,
     image: &mut [u32],
     out: &mut [u8],
 ) -> usize
     requires { ⌜ Room (length (now image)) (length (now out)) ⌝ }
-    ensures { λ r. ⌜ PlateConverted (picture width height is2bpp) metadata (now («data» .entry)) (now (image .entry)) (now (image .exit)) (now (out .entry)) (now (out .exit)) r ⌝ }
+    ensures { λ r. ⌜ PlateConverted p metadata (now («data» .entry)) (now (image .entry)) (now (image .exit)) (now (out .entry)) (now (out .exit)) r ⌝ }
 {
-    let limit = limit_refusal(width, height, is2bpp, metadata);
+    let limit = limit_refusal(p, metadata);
     if limit > 0 {
         return put_refused(limit, out);
     }
-    let decoded = pvrtc::decode_pvrtc(data, width, height, image, is2bpp);
+    let decoded = pvrtc::decode_picture(data, p, image);
     match decoded {
-        Decoded::Done => put_tga(width, height, image, out),
+        Decoded::Done => put_tga(p.width, p.height, image, out),
         Decoded::Refused(f) => put_refused(pvrtc::refusal_number(f), out),
     }
 }
@@ -196,16 +179,9 @@ pub fn convert(file: &[u8], image: &mut [u32], out: &mut [u8]) -> usize
             is2bpp,
             payload,
         } => {
-            let start = least(payload, file.len());
-            convert_plate(
-                &file[start..],
-                payload - 52,
-                width,
-                height,
-                is2bpp,
-                image,
-                out,
-            )
+            let start = facts::least(payload, file.len());
+            let p = pvrtc::picture_of(width, height, is2bpp);
+            convert_plate(&file[start..], payload - 52, p, image, out)
         }
         Header::Refused(f) => put_refused(pvr::header_refusal_number(f), out),
     }

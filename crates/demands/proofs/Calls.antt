@@ -1,6 +1,6 @@
 -- Demands 2 and 3 over what the calls promise. Assumes nothing.
 use mathlib.Core.Path.{_≡_, refl, sym, _∙_}
-use mathlib.Core.Bool.{false}
+use mathlib.Core.Bool.{Bool, false}
 use mathlib.Core.List.{List, List·Memᴰ}
 use Prim.Native.Nat.{ℕ, _*_, _/_, _%_, _<_}
 use native.Mathlib.Nat.{mod-lt}
@@ -8,18 +8,20 @@ use native.Mathlib.Omega.{arith}
 use lib.ListN.{length}
 use borrow.Author.Tests.{le-ltb}
 use Rattle.grid.specs.Grid.{half, blockWidth}
+use Rattle.grid.proofs.Counts.{wide}
 use Rattle.khronos.specs.Agrees.{Bytes}
 use Rattle.khronos.proofs.IsKhronos.{words-agree}
 use Rattle.texel.proofs.Same.{held}
 use Rattle.texel.proofs.Shares.{half-low}
-use Rattle.pvrtc.specs.Calls.{refusal, pictureTexel}
-use Rattle.pvrtc.specs.Refusals.{across, down, need, zeroSide, largeSide, notPower}
+use Rattle.pvrtc.specs.Calls.{refusal}
+use Rattle.pvrtc.specs.Picture.{gridOf, pictureTexel}
+use Rattle.pvrtc.specs.Refusals.{need, zeroSide, largeSide, notPower}
 use Rattle.pvrtc.specs.declared.Call.{Call}
 use Rattle.pvrtc.specs.declared.Call.the-variants as call
 use Rattle.pvrtc.specs.declared.Picture.{Picture}
-use Rattle.pvrtc.proofs.Accepted.{Accepted, accepted, column-in, row-in, texel-inside, row-inside, inside-accepted, power-across, power-down}
+use Rattle.pvrtc.proofs.Accepted.{Accepted, accepted, block-in, texel-inside, row-inside, inside-accepted, power-across, power-down}
 use Rattle.pvrtc.proofs.Agree.{row-is, block-is}
-use Rattle.demands.specs.Demands.{khronosWord, Right, Shown, Near, footprintOf}
+use Rattle.demands.specs.Demands.{khronosWord, Right, Shown, LocalCalls, blocksOf, footprintOf}
 use Rattle.demands.specs.Local.{Local}
 use Rattle.demands.proofs.Idle.{answered}
 use Rattle.demands.proofs.Local.{covers, local}
@@ -41,17 +43,22 @@ right p d bytes =
     }
   where
     khronos : {c : Call} → Accepted p c (length d) → (x y : ℕ) → x < p .width → y < p .height → pictureTexel p d x y ≡ khronosWord p d x y
-    khronos ok x y hx hy = words-agree (p .is2bpp) (across p) (down p) d bytes x y (column-in ok x hx) (row-in ok y hy)
+    khronos ok x y hx hy =
+        let at = block-in ok x y hx hy in
+        words-agree (gridOf p .is2bpp) (gridOf p .across) (gridOf p .down) d bytes x y (at .across) (at .down)
 
 -- demand 3, for every picture whose sizes are accepted
 module _ (p : Picture) (sides : zeroSide p ≡ false) (small : largeSide p ≡ false) (powers : notPower p ≡ false) where
-  here : Local (p .is2bpp) (across p) (down p) (p .width) (p .height)
-  here = local (p .is2bpp) (across p) (down p) (p .width) (p .height) (covers (p .is2bpp) (p .width) (p .height) (power-across p powers) (power-down p powers))
+  abbrev two : Bool
+  two = gridOf p .is2bpp
+
+  here : Local two (gridOf p .across) (gridOf p .down) (p .width) (p .height)
+  here = local two (gridOf p .across) (gridOf p .down) (p .width) (p .height) (covers two (p .width) (p .height) (power-across p powers) (power-down p powers))
 
   shown : (x y z : ℕ) → x < p .width → y < p .height → List·Memᴰ z (footprintOf p x y) → Shown p x y z
   shown x y z hx hy m =
       let t = here .needed x y z m in
-      let fits : (d : List ℕ) → length d ≡ 8 * (across p * down p) → refusal p (call.Texel x y) d ≡ 0 =
+      let fits : (d : List ℕ) → length d ≡ 8 * blocksOf p → refusal p (call.Texel x y) d ≡ 0 =
       λ d e. inside-accepted p x y (length d) sides small (le-ltb (length d) (need p) (omega arith)) powers hx hy in
       record {
         one = t .one;
@@ -64,17 +71,17 @@ module _ (p : Picture) (sides : zeroSide p ≡ false) (small : largeSide p ≡ f
         differ = λ v w a b e. t .differ (sym (answered p (t .one) x y v a) ∙ e ∙ answered p (t .other) x y w b);
       }
 
-  pub near : Near p
-  near =
+  pub local-calls : LocalCalls p
+  local-calls =
       record {
         some = here .some;
         few = here .few;
         fills = λ x y u v a b.
-            in-footprint (p .is2bpp) (across p) (down p) x y _
+            in-footprint two (gridOf p .across) (gridOf p .down) x y _
             (record {
-              i = u / blockWidth (p .is2bpp);
+              i = u / blockWidth two;
               j = v / 4;
-              across = held (half (p .is2bpp)) (x % blockWidth (p .is2bpp)) u (half-low (p .is2bpp)) (mod-lt x (omega (arith, half-low (p .is2bpp)))) (a .0) (a .1);
+              across = held (half two) (x % blockWidth two) u (half-low two) (mod-lt x (wide two)) (a .0) (a .1);
               down = held 2 (y % 4) v (omega arith) (omega arith) (omega arith) (omega arith);
               is = refl;
             });

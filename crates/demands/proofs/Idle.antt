@@ -10,14 +10,16 @@ use Rattle.facts.specs.Tab.{tab}
 use Rattle.grid.specs.Grid.{halvings, log2, address, beside}
 use Rattle.word.specs.Word.{weight4bpp, punch4bpp, stored2bpp, weight2bpp, fill2bpp, wordOf}
 use Rattle.texel.specs.Texel.{share, nineSum, scaleColor, scaleAlpha, blended, near, filled, mixed, texelIn, texelAt}
-use Rattle.pvrtc.specs.Calls.{refusal, pictureTexel, TexelRead}
+use Rattle.pvrtc.specs.Calls.{refusal, TexelRead}
+use Rattle.pvrtc.specs.Picture.{pictureTexel}
 use Rattle.pvrtc.specs.Refusals.{shortImage, outside}
 use Rattle.pvrtc.specs.declared.Call.the-variants as call
 use Rattle.pvrtc.specs.declared.Picture.{Picture}
 use Rattle.pvrtc.specs.declared.Texel.the-variants.{Word}
 use Rattle.pvrtc.proofs.Agree.{row-is, block-is}
 use Rattle.pvrtc.proofs.Unique.{one-texel, one-written}
-use Rattle.demands.specs.Demands.{OneOutcome, redBlack, beside8, below8, NoIdling}
+use Rattle.demands.specs.Demands.{OneOutcome, beside8, below8, NoIdling}
+use Rattle.demands.specs.Samples.{redBlack}
 
 pub one-outcome : OneOutcome
 one-outcome = record { texel = one-texel; row = λ p d y old new new' r s. one-written; block = λ p d old new new' r s. one-written }
@@ -40,25 +42,16 @@ unfolding firstOf shortImage outside halvings log2
 block-passes = refl
 
 -- the texels that are looked at: red in the middle of the first block, black in the middle of the second, half red between them
-red : pictureTexel beside8 redBlack 2 2 ≡ 0xFFFF0000
-unfolding tab flags sum halvings log2 address beside weight4bpp punch4bpp stored2bpp weight2bpp fill2bpp wordOf share nineSum scaleColor scaleAlpha blended near filled mixed texelIn texelAt
-red = refl
+record Shades : Type 0 where
+  pub red : pictureTexel beside8 redBlack 2 2 ≡ 0xFFFF0000
+  pub black : pictureTexel beside8 redBlack 6 2 ≡ 0xFF000000
+  pub top-red : pictureTexel beside8 redBlack 2 0 ≡ 0xFFFF0000
+  pub below-red : pictureTexel below8 redBlack 2 2 ≡ 0xFFFF0000
+  pub below-half : pictureTexel below8 redBlack 2 0 ≡ 0xFF7F0000
 
-black : pictureTexel beside8 redBlack 6 2 ≡ 0xFF000000
+shades : Shades
 unfolding tab flags sum halvings log2 address beside weight4bpp punch4bpp stored2bpp weight2bpp fill2bpp wordOf share nineSum scaleColor scaleAlpha blended near filled mixed texelIn texelAt
-black = refl
-
-top-red : pictureTexel beside8 redBlack 2 0 ≡ 0xFFFF0000
-unfolding tab flags sum halvings log2 address beside weight4bpp punch4bpp stored2bpp weight2bpp fill2bpp wordOf share nineSum scaleColor scaleAlpha blended near filled mixed texelIn texelAt
-top-red = refl
-
-below-red : pictureTexel below8 redBlack 2 2 ≡ 0xFFFF0000
-unfolding tab flags sum halvings log2 address beside weight4bpp punch4bpp stored2bpp weight2bpp fill2bpp wordOf share nineSum scaleColor scaleAlpha blended near filled mixed texelIn texelAt
-below-red = refl
-
-below-half : pictureTexel below8 redBlack 2 0 ≡ 0xFF7F0000
-unfolding tab flags sum halvings log2 address beside weight4bpp punch4bpp stored2bpp weight2bpp fill2bpp wordOf share nineSum scaleColor scaleAlpha blended near filled mixed texelIn texelAt
-below-half = refl
+shades = record { red = refl; black = refl; top-red = refl; below-red = refl; below-half = refl }
 
 pub no-idling : NoIdling
 no-idling =
@@ -66,17 +59,17 @@ no-idling =
       texel-told = λ r t. t .number ∙ texel-passes;
       row-told = λ new r w. w .number ∙ row-passes;
       block-told = λ new r w. w .number ∙ block-passes;
-      no-fixed-word = λ v t u. omega (arith, answered beside8 redBlack 2 2 v t, answered beside8 redBlack 6 2 v u, red, black);
-      row-written = λ w. omega (arith, row-is beside8 redBlack 2 0 (omega arith) w, top-red);
-      block-written = λ w. omega (arith, block-is beside8 redBlack 2 2 (omega arith) (omega arith) w, red);
+      no-fixed-word = λ v t u. omega (arith, answered beside8 redBlack 2 2 v t, answered beside8 redBlack 6 2 v u, shades .red, shades .black);
+      row-written = λ w. omega (arith, row-is beside8 redBlack 2 0 (omega arith) w, shades .top-red);
+      block-written = λ w. omega (arith, block-is beside8 redBlack 2 2 (omega arith) (omega arith) w, shades .red);
       not-first-block = λ new w same.
           omega (
             arith,
             same 6 2 (omega arith) (omega arith),
             block-is beside8 redBlack 6 2 (omega arith) (omega arith) w,
             block-is beside8 redBlack 2 2 (omega arith) (omega arith) w,
-            red,
-            black,
+            shades .red,
+            shades .black,
           );
       not-first-row = λ new w same.
           omega (
@@ -84,7 +77,7 @@ no-idling =
             same 2 2 (omega arith) (omega arith),
             block-is below8 redBlack 2 2 (omega arith) (omega arith) w,
             block-is below8 redBlack 2 0 (omega arith) (omega arith) w,
-            below-red,
-            below-half,
+            shades .below-red,
+            shades .below-half,
           );
     }

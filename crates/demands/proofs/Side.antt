@@ -35,9 +35,9 @@ apart side a t t' less low e =
 
 module _ (h g : ℕ) (lh : 0 < h) (lg : 0 < g) where
   -- the t-th texel that block c touches stands h + 1 + t past the start of the block before c
-  strip : (c t : ℕ) → touched h g c t ≡ beside g c ((h + 1 + t) / (2 * h)) * (2 * h) + (h + 1 + t) % (2 * h)
+  rounded : (c t : ℕ) → touched h g c t ≡ beside g c ((h + 1 + t) / (2 * h)) * (2 * h) + (h + 1 + t) % (2 * h)
   unfolding touched beside
-  strip c t =
+  rounded c t =
       let side : ℕ = g * (2 * h) in
       let u : ℕ = h + 1 + t in
       let k : ℕ = u / (2 * h) in
@@ -69,7 +69,7 @@ module _ (h g : ℕ) (lh : 0 < h) (lg : 0 < g) where
       record {
         k = u - (h + 1);
         below = omega arith;
-        is = sym (strip (beside g q i) (u - (h + 1)) ∙ rw (e, cut .0, cut .1, back g q i lq (s .0)) (div-add-mod' x (2 * h)));
+        is = sym (rounded (beside g q i) (u - (h + 1)) ∙ rw (e, cut .0, cut .1, back g q i lq (s .0)) (div-add-mod' x (2 * h)));
       }
     where
       bound : (i p : ℕ) → p < 2 * h → HasShare h p i → (h < (2 - i) * (2 * h) + p) × ((2 - i) * (2 * h) + p < 5 * h)
@@ -98,7 +98,7 @@ module _ (h g : ℕ) (lh : 0 < h) (lg : 0 < g) where
       let b : ℕ = beside g c k in
       let lb : b < g = beside-below g c k lg in
       let cut : ((b * (2 * h) + r) / (2 * h) ≡ b) × ((b * (2 * h) + r) % (2 * h) ≡ r) = split (2 * h) (b * (2 * h) + r) b r refl lr in
-      rw (strip c t)
+      rw (rounded c t)
       (record {
         i = 2 - k;
         below = omega (arith, mul-le-mul-right {m = suc b} {n = g} (2 * h) lb);

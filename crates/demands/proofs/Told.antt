@@ -1,4 +1,4 @@
--- No footprint is too large: two runs tell each block of it. All their bytes are 0, but for the eight of that block in one run, which
+-- No footprint is too large: two runs tell each block of it. All their bytes are 0, but for the eight of that block in one oneBlock, which
 -- are 15: both its colours have red 31, so red shows in the texel, whatever the weight. Assumes nothing.
 use mathlib.Core.Path.{_≡_, refl, sym, ap, _∙_}
 use mathlib.Core.Bool.{Bool, true, false, cond}
@@ -36,25 +36,25 @@ use Rattle.demands.proofs.Member.{Drawn}
 abbrev byte : ℕ → ℕ → ℕ → ℕ
 byte v z k = cond (eqb (k / 8) z) v 0
 
-abbrev run : ℕ → ℕ → ℕ → List ℕ
-run v n z = tab (byte v z) (8 * n)
+abbrev oneBlock : ℕ → ℕ → ℕ → List ℕ
+oneBlock v n z = tab (byte v z) (8 * n)
 
 module _ (v n z : ℕ) (lz : z < n) where
-  run-at : (k : ℕ) → getD (run v n z) k 0 ≡ byte v z k
-  run-at k =
+  one-block-at : (k : ℕ) → getD (oneBlock v n z) k 0 ≡ byte v z k
+  one-block-at k =
       ⊎-elim
       (getD-tab (byte v z) (8 * n) k 0)
-      (λ l. List·getD-eq-default (run v n z) 0 (omega (arith, length-tab (byte v z) (8 * n))) ∙ rw (ne-eqb (k / 8) z (omega arith)))
+      (λ l. List·getD-eq-default (oneBlock v n z) 0 (omega (arith, length-tab (byte v z) (8 * n))) ∙ rw (ne-eqb (k / 8) z (omega arith)))
       (lt-or-le k (8 * n))
 
-  run-low : v < 256 → (k : ℕ) → getD (run v n z) k 0 < 256
-  run-low l k = rw (run-at k) (choice (λ b. b < 256) (eqb (k / 8) z) {a = v} {b = 0} (λ _. l) (λ _. omega arith))
+  one-block-low : v < 256 → (k : ℕ) → getD (oneBlock v n z) k 0 < 256
+  one-block-low l k = rw (one-block-at k) (choice (λ b. b < 256) (eqb (k / 8) z) {a = v} {b = 0} (λ _. l) (λ _. omega arith))
 
-  run-own : (k : ℕ) → k < 8 → getD (run v n z) (8 * z + k) 0 ≡ v
-  run-own k l = run-at (8 * z + k) ∙ rw (eq-eqb ((8 * z + k) / 8) z (omega arith))
+  one-block-own : (k : ℕ) → k < 8 → getD (oneBlock v n z) (8 * z + k) 0 ≡ v
+  one-block-own k l = one-block-at (8 * z + k) ∙ rw (eq-eqb ((8 * z + k) / 8) z (omega arith))
 
-  run-other : (b k : ℕ) → (b ≡ z → ⊥) → k < 8 → getD (run v n z) (8 * b + k) 0 ≡ 0
-  run-other b k o l = run-at (8 * b + k) ∙ rw (ne-eqb ((8 * b + k) / 8) z (λ e. o (omega arith)))
+  one-block-other : (b k : ℕ) → (b ≡ z → ⊥) → k < 8 → getD (oneBlock v n z) (8 * b + k) 0 ≡ 0
+  one-block-other b k o l = one-block-at (8 * b + k) ∙ rw (ne-eqb ((8 * b + k) / 8) z (λ e. o (omega arith)))
 
 -- a texel whose words are all of bytes 0 is 0
 black : (two : Bool) (px py : ℕ) → px < blockWidth two → py < 4 → packed (texelIn (half two) (λ i j. wordOf two []) px py) ≡ 0
@@ -63,20 +63,20 @@ black true px py lx ly = eqb→eq _ 0 (below₂ (λ px py. eqb (packed (texelIn 
 black false px py lx ly = eqb→eq _ 0 (below₂ (λ px py. eqb (packed (texelIn 2 (λ i j. wordOf false []) px py)) 0) 4 4 tt px py lx ly)
 
 -- so is every texel of a run of bytes 0
-dark : (two : Bool) (gx gy n z x y : ℕ) → z < n → texelWord two gx gy (run 0 n z) x y ≡ 0
+dark : (two : Bool) (gx gy n z x y : ℕ) → z < n → texelWord two gx gy (oneBlock 0 n z) x y ≡ 0
 unfolding texelAt
 dark two gx gy n z x y lz =
-    ap packed (look-same (half two) gx gy x y (half-low two) (wordsOf two gx gy (run 0 n z)) (λ i j. wordOf two []) (λ i j _ _. word i j))
+    ap packed (look-same (half two) gx gy x y (half-low two) (wordsOf two gx gy (oneBlock 0 n z)) (λ i j. wordOf two []) (λ i j _ _. word i j))
     ∙ black two (x % blockWidth two) (y % 4) (mod-lt x (omega (arith, half-low two))) (omega arith)
   where
-    zero-byte : (k : ℕ) → getD (run 0 n z) k 0 ≡ 0
-    zero-byte k = run-at 0 n z lz k ∙ choice (λ b. b ≡ 0) (eqb (k / 8) z) (λ _. refl) (λ _. refl)
+    zero-byte : (k : ℕ) → getD (oneBlock 0 n z) k 0 ≡ 0
+    zero-byte k = one-block-at 0 n z lz k ∙ choice (λ b. b ≡ 0) (eqb (k / 8) z) (λ _. refl) (λ _. refl)
 
-    word : (i j : ℕ) → wordOf two (drop (8 * blockAddress gx gy (beside gx (x / blockWidth two) i) (beside gy (y / 4) j)) (run 0 n z)) ≡ wordOf two []
+    word : (i j : ℕ) → wordOf two (drop (8 * blockAddress gx gy (beside gx (x / blockWidth two) i) (beside gy (y / 4) j)) (oneBlock 0 n z)) ≡ wordOf two []
     word i j =
         word-same two _ [] (λ k l.
         let at : ℕ = 8 * blockAddress gx gy (beside gx (x / blockWidth two) i) (beside gy (y / 4) j) in
-        getD-drop at (run 0 n z) k 0 ∙ zero-byte (at + k))
+        getD-drop at (oneBlock 0 n z) k 0 ∙ zero-byte (at + k))
 
 -- bytes 15 make both colours red
 red-of : (two second : Bool) (d : List ℕ) → ((k : ℕ) → k < 8 → getD d k 0 ≡ 15) → side second (wordOf two d) .r ≡ 31
@@ -110,20 +110,20 @@ pub told : (two : Bool) (gx gy x y n z : ℕ) → z < n → Drawn two gx gy x y 
 unfolding texelAt
 told two gx gy x y n z lz d =
     record {
-      one = run 15 n z;
-      other = run 0 n z;
+      one = oneBlock 15 n z;
+      other = oneBlock 0 n z;
       one-length = length-tab (byte 15 z) (8 * n);
       other-length = length-tab (byte 0 z) (8 * n);
-      one-bytes = run-low 15 n z lz (omega arith);
-      other-bytes = run-low 0 n z lz (omega arith);
-      alone = λ b _ o k l. run-other 15 n z lz b k o l ∙ sym (run-other 0 n z lz b k o l);
+      one-bytes = one-block-low 15 n z lz (omega arith);
+      other-bytes = one-block-low 0 n z lz (omega arith);
+      alone = λ b _ o k l. one-block-other 15 n z lz b k o l ∙ sym (one-block-other 0 n z lz b k o l);
       differ = λ e. omega (arith, lit, dark two gx gy n z x y lz);
     }
   where
     of : ℕ → ℕ → List ℕ
-    of i j = drop (8 * blockAddress gx gy (beside gx (x / blockWidth two) i) (beside gy (y / 4) j)) (run 15 n z)
+    of i j = drop (8 * blockAddress gx gy (beside gx (x / blockWidth two) i) (beside gy (y / 4) j)) (oneBlock 15 n z)
 
-    lit : 0 < texelWord two gx gy (run 15 n z) x y
+    lit : 0 < texelWord two gx gy (oneBlock 15 n z) x y
     lit =
         bright two of (x % blockWidth two) (y % 4) (d .i) (d .j) (mod-lt x (omega (arith, half-low two))) (omega arith) (d .across) (d .down)
-        (λ k l. rw (← d .is, getD-drop) (run-own 15 n z lz k l))
+        (λ k l. rw (← d .is, getD-drop) (one-block-own 15 n z lz k l))

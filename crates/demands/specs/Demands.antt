@@ -1,22 +1,24 @@
 -- The three demands, over what the calls promise. Assumes nothing: these are definitions.
 use mathlib.Core.Path.{_≡_}
 use mathlib.Core.Bool.{false}
-use mathlib.Core.List.{List, [], _∷_, List·Memᴰ}
+use mathlib.Core.List.{List, List·Memᴰ}
 use Prim.Native.Nat.{ℕ, _+_, _*_, _/_, _%_, _≤_, _<_}
 use lib.ListN.{length, getD, replicate}
 use Rattle.grid.specs.Grid.{blockWidth, blockAddress, beside}
-use Rattle.khronos.specs.Agrees.{Bytes, run, word32}
+use Rattle.khronos.specs.Agrees.{Bytes, bytesAt, word32}
 use Rattle.khronos.specs.Khronos.{word64, khronosTexel}
-use Rattle.pvrtc.specs.Calls.{picture, refusal, TexelRead, RowDecoded, BlockDecoded}
-use Rattle.pvrtc.specs.Refusals.{across, down, texelNumber, decodedNumber}
+use Rattle.pvrtc.specs.Calls.{refusal, TexelRead, RowDecoded, BlockDecoded}
+use Rattle.pvrtc.specs.Picture.{picture, gridOf}
+use Rattle.pvrtc.specs.Refusals.{texelNumber, decodedNumber}
 use Rattle.pvrtc.specs.declared.Call.the-variants as call
 use Rattle.pvrtc.specs.declared.Decoded.{Decoded}
 use Rattle.pvrtc.specs.declared.Decoded.the-variants.{Done}
 use Rattle.pvrtc.specs.declared.Picture.{Picture}
 use Rattle.pvrtc.specs.declared.Texel.{Texel}
 use Rattle.pvrtc.specs.declared.Texel.the-variants.{Word}
-use Rattle.demands.specs.Damage.{spot, damaged}
+use Rattle.demands.specs.Damage.{Spot, spot, damaged}
 use Rattle.demands.specs.Footprint.{footprint, SameBlock, SameOutside}
+use Rattle.demands.specs.Samples.{redBlack}
 
 -- Demand 1, first part: no two outcomes of a call meet its promise.
 pub record OneOutcome : Type 0 where
@@ -26,14 +28,7 @@ pub record OneOutcome : Type 0 where
   pub block : (p : Picture) (d old new new' : List ℕ) (r s : Decoded)
       → BlockDecoded p d old new r → BlockDecoded p d old new' s → (r ≡ s) × (new ≡ new')
 
--- A block of weights 0, opaque, with colour A as given and B black, and the blocks after it.
-abbrev pub block : ℕ → List ℕ → List ℕ
-block a l = 0 ∷ 0 ∷ 0 ∷ 0 ∷ a % 256 ∷ a / 256 ∷ 0 ∷ 0x80 ∷ l
-
--- A plate of two blocks, the first red and the second black: side by side, and one above the other.
-abbrev pub redBlack : List ℕ
-redBlack = block 0xFC00 (block 0x8000 [])
-
+-- A plate of two blocks, red and black: side by side, and one above the other.
 abbrev pub beside8 : Picture
 beside8 = picture 8 4 false
 
@@ -59,13 +54,23 @@ pub record NoIdling : Type 0 where
 
 -- The word that Khronos describes at texel (x, y) of a picture.
 abbrev pub khronosWord : Picture → List ℕ → ℕ → ℕ → ℕ
-khronosWord p d x y = word32 (khronosTexel (p .is2bpp) (across p) (down p) (λ i j. word64 (run (across p) (down p) d i j)) x y)
+khronosWord p d x y =
+    let g = gridOf p in
+    word32 (khronosTexel (g .is2bpp) (g .across) (g .down) (λ i j. word64 (bytesAt (g .across) (g .down) d i j)) x y)
 
 -- Demand 2, for data d of bytes: every texel that a call gives is Khronos's, and so the three calls agree.
 pub record Right (p : Picture) (d : List ℕ) : Type 0 where
   pub texel : (x y v : ℕ) → TexelRead p d x y (Word v) → v ≡ khronosWord p d x y
   pub row : (x y : ℕ) (old new : List ℕ) → x < p .width → RowDecoded p d y old new Done → getD new x 0 ≡ khronosWord p d x y
   pub block : (x y : ℕ) (old new : List ℕ) → x < p .width → y < p .height → BlockDecoded p d old new Done → getD new (y * p .width + x) 0 ≡ khronosWord p d x y
+
+-- How many blocks a picture's grid has.
+abbrev pub blocksOf : Picture → ℕ
+blocksOf p = gridOf p .across * gridOf p .down
+
+-- The rectangle of texels that damage in block z can change.
+abbrev pub damagedBy : Picture → ℕ → List Spot
+damagedBy p z = damaged (gridOf p .is2bpp) (gridOf p .across) (gridOf p .down) z
 
 -- Two accepted runs for texel (x, y) of a picture that differ in block z alone and give different texels.
 pub record Shown (p : Picture) (x y z : ℕ) : Type 0 where
@@ -75,27 +80,28 @@ pub record Shown (p : Picture) (x y z : ℕ) : Type 0 where
   pub other-bytes : Bytes other
   pub one-accepted : refusal p (call.Texel x y) one ≡ 0
   pub other-accepted : refusal p (call.Texel x y) other ≡ 0
-  pub alone : SameOutside (across p * down p) one other z
+  pub alone : SameOutside (blocksOf p) one other z
   pub differ : (v w : ℕ) → TexelRead p one x y (Word v) → TexelRead p other x y (Word w) → v ≡ w → ⊥
 
 -- The blocks of a texel of a picture that its colours and its weight come from.
 abbrev pub footprintOf : Picture → ℕ → ℕ → List ℕ
-footprintOf p x y = footprint (p .is2bpp) (across p) (down p) x y
+footprintOf p x y = footprint (gridOf p .is2bpp) (gridOf p .across) (gridOf p .down) x y
 
 -- Demand 3, for the texel calls that are accepted.
-pub record Near (p : Picture) : Type 0 where
+pub record LocalCalls (p : Picture) : Type 0 where
   -- One to four blocks.
   pub some : (x y : ℕ) → 1 ≤ length (footprintOf p x y)
   pub few : (x y : ℕ) → length (footprintOf p x y) ≤ 4
-  -- The block of each weight that filling reads is among them: (u, v) is the texel's own place on the strip of three by three blocks
+  -- The block of each weight that filling reads is among them: (u, v) is the texel's own place of the three by three blocks
   -- or at most one texel beside it.
-  pub fills : (x y u v : ℕ) → (let bw = blockWidth (p .is2bpp) in (x % bw + bw ≤ u + 1) × (u ≤ x % bw + bw + 1)) → (y % 4 + 4 ≤ v + 1) × (v ≤ y % 4 + 5)
-      → List·Memᴰ (blockAddress (across p) (down p) (beside (across p) (x / blockWidth (p .is2bpp)) (u / blockWidth (p .is2bpp))) (beside (down p) (y / 4) (v / 4))) (footprintOf p x y)
+  pub fills : (x y u v : ℕ) → let g = gridOf p in let bw = blockWidth (g .is2bpp) in
+      (x % bw + bw ≤ u + 1) × (u ≤ x % bw + bw + 1) → (y % 4 + 4 ≤ v + 1) × (v ≤ y % 4 + 5)
+      → List·Memᴰ (blockAddress (g .across) (g .down) (beside (g .across) (x / bw) (u / bw)) (beside (g .down) (y / 4) (v / 4))) (footprintOf p x y)
   -- Two accepted runs that agree on them give the same texel.
   pub enough : (x y v w : ℕ) (d d' : List ℕ) → ((z : ℕ) → List·Memᴰ z (footprintOf p x y) → SameBlock d d' z)
       → TexelRead p d x y (Word v) → TexelRead p d' x y (Word w) → v ≡ w
   -- And each of them matters.
   pub needed : (x y z : ℕ) → x < p .width → y < p .height → List·Memᴰ z (footprintOf p x y) → Shown p x y z
   -- So damage in block z touches no texel outside its rectangle.
-  pub only : (x y z v w : ℕ) (d d' : List ℕ) → SameOutside (across p * down p) d d' z → TexelRead p d x y (Word v) → TexelRead p d' x y (Word w)
-      → (v ≡ w → ⊥) → List·Memᴰ (spot x y) (damaged (p .is2bpp) (across p) (down p) z)
+  pub only : (x y z v w : ℕ) (d d' : List ℕ) → SameOutside (blocksOf p) d d' z → TexelRead p d x y (Word v) → TexelRead p d' x y (Word w)
+      → (v ≡ w → ⊥) → List·Memᴰ (spot x y) (damagedBy p z)

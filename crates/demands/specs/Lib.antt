@@ -3,3 +3,4 @@ pub mod Demands
 pub mod Footprint
 pub mod Local
 pub mod Numbers
+pub mod Samples

@@ -10,6 +10,7 @@ use Rattle.grid.specs.Grid.{blockWidth, blocks, blockAddress}
 use Rattle.word.specs.Word.{blueA, blueB, weight2bpp}
 use Rattle.texel.specs.Texel.{blended, mean2, mean4, texelWord}
 use Rattle.demands.specs.Footprint.{footprint}
+use Rattle.demands.specs.Samples.{block, redBlack}
 
 -- A line of the table.
 pub record Line : Type 0 where
@@ -29,10 +30,6 @@ same (a ∷ k) (b ∷ l) = eqb a b && same k l
 abbrev pub agrees : Line → Bool
 agrees l = same (l .made) (l .paper)
 
--- A block of weights 0, with colour A as given and B opaque black, and the blocks after it.
-abbrev block : ℕ → List ℕ → List ℕ
-block a l = 0 ∷ 0 ∷ 0 ∷ 0 ∷ a % 256 ∷ a / 256 ∷ 0 ∷ 0x80 ∷ l
-
 -- The texel (x, y) of a picture of w by h texels.
 abbrev texel : Bool → ℕ → ℕ → List ℕ → ℕ → ℕ → ℕ
 texel two w h d x y = texelWord two (blocks (blockWidth two) w) (blocks 4 h) d x y
@@ -49,7 +46,7 @@ alpha t = t / 16777216
 
 -- Row y of reds: block 0 has red 31, block 1 is black.
 abbrev reds : ℕ → List ℕ
-reds y = tab (λ x. red (texel false 8 4 (block 0xFC00 (block 0x8000 [])) x y)) 8
+reds y = tab (λ x. red (texel false 8 4 redBlack x y)) 8
 
 abbrev paperReds : List ℕ
 paperReds = 127 ∷ 191 ∷ 255 ∷ 191 ∷ 127 ∷ 63 ∷ 0 ∷ 63 ∷ []

@@ -3,12 +3,12 @@
 use mathlib.Core.Path.{_≡_, refl, sym, ap, subst, _∙_}
 use mathlib.Core.List.{List, [], _∷_, _++_, append-assoc, append-nil}
 use mathlib.Core.Logic.{⊎-elim}
-use Prim.Native.Nat.{ℕ, zero, suc, _+_, _<_}
+use Prim.Native.Nat.{ℕ, zero, suc, _+_, _≤_, _<_}
 use native.Mathlib.Nat.{le-of-eq, not-suc-le-zero, le-of-suc-le-suc, eq-or-lt-of-le}
 use native.Mathlib.Numerals.{add-one}
 use native.Mathlib.Omega.{arith}
-use lib.ListN.{length, getD, set, drop, length-append, List·getD-append, drop-of-length-le}
-use lib.Seq.{drop-cons, set-at, getD-append-seam}
+use lib.ListN.{length, getD, set, drop, length-append, length-drop, List·getD-append, drop-of-length-le}
+use lib.Seq.{drop-cons, ext-getD, set-at, getD-append-seam}
 use Rattle.facts.specs.Tab.{tab}
 
 module _ {A : Type 0} where
@@ -64,3 +64,14 @@ module _ {A : Type 0} where
 
   pub filled-end : {f : ℕ → A} {d : List A} {n : ℕ} {w : List A} (m : ℕ) → Filled f d n w → n ≡ m → length d ≡ m → w ≡ tab f m
   filled-end {f} {d} m h e l = cc (tab-all f m d l, h .is)
+
+  -- and the list stays as long as it was
+  pub filled-length : {f : ℕ → A} {d : List A} {n : ℕ} {w : List A} → Filled f d n w → n ≤ length d → length w ≡ length d
+  filled-length {f} {d} {n} h l =
+      ap length (h .is) ∙ length-append (tab f n) (drop n d) ∙ omega (arith, length-tab f n, length-drop n d)
+
+  -- a list is the list of its own values
+  pub tab-of : (l : List A) (z : A) → tab (λ i. getD l i z) (length l) ≡ l
+  tab-of l z =
+      ext-getD z (tab (λ i. getD l i z) (length l)) l (length-tab _ (length l))
+      (λ k m. getD-tab (λ i. getD l i z) (length l) k z (rw (length-tab (λ i. getD l i z) (length l)) at m))

@@ -19,17 +19,23 @@ pub beside-own : (g q : ℕ) → q < g → beside g q 1 ≡ q
 unfolding beside
 beside-own g q h = ap (λ (n : ℕ). n % g) (omega arith) ∙ add-mod-right q g ∙ mod-eq-of-lt h
 
+-- the block after a block, inside the side and at its end
+pub next-inside : (g q : ℕ) → q + 1 < g → beside g q 2 ≡ q + 1
+unfolding beside
+next-inside g q h = ap (λ (n : ℕ). n % g) (omega arith) ∙ add-mod-right (q + 1) g ∙ mod-eq-of-lt h
+
+pub next-round : (g q : ℕ) → q + 1 ≡ g → beside g q 2 ≡ 0
+unfolding beside
+next-round g q e = ap (λ (n : ℕ). n % g) (omega arith) ∙ add-mod-right g g ∙ mod-self g
+
 -- the block before the block after a block
 pub back-again : (g q : ℕ) → q < g → beside g (beside g q 2) 0 ≡ q
 unfolding beside
 back-again g q h =
     ⊎-elim
-    (λ e.
-    let on : (q + 2 + g - 1) % g ≡ 0 = ap (λ (n : ℕ). n % g) (omega arith) ∙ add-mod-right g g ∙ mod-self g in
-    ap (λ (n : ℕ). (n + 0 + g - 1) % g) on ∙ ap (λ (n : ℕ). n % g) (omega arith) ∙ mod-eq-of-lt h)
+    (λ e. ap (λ (n : ℕ). (n + 0 + g - 1) % g) (next-round g q (omega (arith, e))) ∙ ap (λ (n : ℕ). n % g) (omega arith) ∙ mod-eq-of-lt h)
     (λ less.
-    let on : (q + 2 + g - 1) % g ≡ q + 1 = ap (λ (n : ℕ). n % g) (omega arith) ∙ add-mod-right (q + 1) g ∙ mod-eq-of-lt (omega arith) in
-    ap (λ (n : ℕ). (n + 0 + g - 1) % g) on ∙ ap (λ (n : ℕ). n % g) (omega arith) ∙ add-mod-right q g ∙ mod-eq-of-lt h)
+    ap (λ (n : ℕ). (n + 0 + g - 1) % g) (next-inside g q (omega (arith, less))) ∙ ap (λ (n : ℕ). n % g) (omega arith) ∙ add-mod-right q g ∙ mod-eq-of-lt h)
     (eq-or-lt-of-le h)
 
 -- a number round g blocks of b: its block goes round, its place in the block stays

@@ -40,9 +40,13 @@ module _ {g : Grid} {len : ℕ} (s : Stands g len) where
     placed-in e =
         rw e (placed (g .across) (g .down) bx by (s .power-across) (s .power-down) (s .small-across) (s .small-down) (b .across) (b .down))
 
-    -- its address, and where its word lies
+    -- its address is one of the grid's
+    pub in-grid : blockAddress (g .across) (g .down) bx by < g .across * g .down
+    in-grid = bijective (g .across) (g .down) (s .power-across) (s .power-down) .within bx by (b .across) (b .down)
+
+    -- and its word lies in the run
     pub located : {m z : ℕ} → m ≡ min (g .across) (g .down) → z ≡ address (log2 m) bx by
         → (z ≡ blockAddress (g .across) (g .down) bx by) × (8 * z + 8 ≤ len)
     located em ez =
         let e = ez ∙ ap (λ (n : ℕ). address (log2 n) bx by) em in
-        (e, omega (arith, bijective (g .across) (g .down) (s .power-across) (s .power-down) .within bx by (b .across) (b .down), s .enough))
+        (e, omega (arith, in-grid, s .enough))

@@ -11,7 +11,7 @@ use Rattle.word.specs.Word.{wordOf}
 use Rattle.word.specs.declared.PVRTCTexelColor.{PVRTCTexelColor}
 use Rattle.word.specs.declared.PVRTCTexelInfo.{PVRTCTexelInfo}
 use Rattle.texel.specs.Texel.{Words, nineSum, blended, filled, ruleAt, punched, about, mixed, texelIn, texelAt}
-use Rattle.khronos.specs.Agrees.{Bytes, Same, Agrees, run, WordsAgree}
+use Rattle.khronos.specs.Agrees.{Bytes, Same, Agrees, bytesAt, WordsAgree}
 use Rattle.khronos.specs.Khronos.{Color, word64, imageA, imageB, bilinear, modulation, punchThrough, modulated, khronosTexel}
 use Rattle.khronos.proofs.Images.{image-a, image-b}
 use Rattle.khronos.proofs.Interpolation.{around}
@@ -77,9 +77,9 @@ pub agrees : (two : Bool) (gx gy : ℕ) (bytes : ℕ → ℕ → List ℕ) → (
 agrees = same
 
 -- so each texel of a run of bytes
-pub is-khronos : (two : Bool) (gx gy : ℕ) (d : List ℕ) → Bytes d → Agrees two gx gy (run gx gy d)
+pub is-khronos : (two : Bool) (gx gy : ℕ) (d : List ℕ) → Bytes d → Agrees two gx gy (bytesAt gx gy d)
 is-khronos two gx gy d l =
-    agrees two gx gy (run gx gy d) (λ i j k. rw (getD-drop (8 * blockAddress gx gy i j) d k 0) (l (8 * blockAddress gx gy i j + k)))
+    agrees two gx gy (bytesAt gx gy d) (λ i j k. rw (getD-drop (8 * blockAddress gx gy i j) d k 0) (l (8 * blockAddress gx gy i j + k)))
 
 -- and each word
 pub words-agree : (two : Bool) (gx gy : ℕ) (d : List ℕ) → Bytes d → WordsAgree two gx gy d

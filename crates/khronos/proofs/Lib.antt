@@ -4,6 +4,6 @@ pub mod Interpolation
 pub mod IsKhronos
 pub mod Modulation
 pub mod Punched
-pub mod Strip
+pub mod Round
 pub mod Weights
 pub mod Widening

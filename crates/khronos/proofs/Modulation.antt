@@ -15,7 +15,7 @@ use Rattle.texel.specs.Texel.{Words, near, mean2, mean4, filled, ruleAt, about}
 use Rattle.khronos.specs.Agrees.{Bytes}
 use Rattle.khronos.specs.Khronos.{word64, stored, interpolated, modulation}
 use Rattle.khronos.proofs.Fields.{parts, is-mode, bit-0, bit-20}
-use Rattle.khronos.proofs.Strip.{Round, here, back, on}
+use Rattle.khronos.proofs.Round.{Round, here, back, on}
 use Rattle.khronos.proofs.Weights.{is-stored}
 
 -- a word's fill rule at either depth

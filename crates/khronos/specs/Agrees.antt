@@ -26,9 +26,9 @@ Agrees two gx gy bytes =
     (x y : ℕ) → x / blockWidth two < gx → y / 4 < gy
     → Same (texelAt (half two) gx gy (λ i j. wordOf two (bytes i j)) x y) (khronosTexel two gx gy (λ i j. word64 (bytes i j)) x y)
 
--- The blocks of a run of bytes: the one in column i and row j starts at eight times its address.
-abbrev pub run : ℕ → ℕ → List ℕ → ℕ → ℕ → List ℕ
-run gx gy d i j = drop (8 * blockAddress gx gy i j) d
+-- The bytes of a run from the block in column i and row j on: it starts at eight times its address.
+abbrev pub bytesAt : ℕ → ℕ → List ℕ → ℕ → ℕ → List ℕ
+bytesAt gx gy d i j = drop (8 * blockAddress gx gy i j) d
 
 -- The word of a colour of 8 bits a channel: blue lowest, alpha on top.
 abbrev pub word32 : Color → ℕ
@@ -38,4 +38,4 @@ word32 c = c .blue + 256 * c .green + 65536 * c .red + 16777216 * c .alpha
 abbrev pub WordsAgree : Bool → ℕ → ℕ → List ℕ → Type 0
 WordsAgree two gx gy d =
     (x y : ℕ) → x / blockWidth two < gx → y / 4 < gy
-    → texelWord two gx gy d x y ≡ word32 (khronosTexel two gx gy (λ i j. word64 (run gx gy d i j)) x y)
+    → texelWord two gx gy d x y ≡ word32 (khronosTexel two gx gy (λ i j. word64 (bytesAt gx gy d i j)) x y)

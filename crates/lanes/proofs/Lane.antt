@@ -2,12 +2,14 @@
 use mathlib.Core.Path.{_≡_, refl, ap, ap₂, _∙_}
 use mathlib.Core.Bool.{Bool, true, false, cond}
 use Prim.Native.Nat.{ℕ, _+_, _*_, _/_, _%_, _-_, _≤_, _<_}
-use native.Mathlib.Nat.{add-mul, mul-add, mul-assoc, mul-le-mul, mul-le-mul-right, add-mul-div-right, add-mul-mod-self-right, div-add-mod', mod-lt, mul-le-mul-left}
+use native.Mathlib.Nat.{add-mul, mul-add, mul-assoc, mul-le-mul, mul-le-mul-left, mul-le-mul-right, add-mul-div-right, add-mul-mod-self-right, div-add-mod'}
+use native.Mathlib.Nat.{mod-lt}
 use native.Mathlib.Omega.{arith}
 use lib.Bits.{bitAnd, and-block, and-high, and-le-l, and-le-r, and-mask, and-mod, and-zero-r}
+use Rattle.facts.proofs.Numbers.{cond-le}
 use Rattle.grid.specs.Grid.{half}
 use Rattle.texel.specs.declared.PVRTCTexelColorInt.{PVRTCTexelColorInt}
-use Rattle.texel.specs.Inner.{toBytes, pixel, Low, Bytes}
+use Rattle.texel.specs.Inner.{toBytes, pixel, Low, EightBits}
 use Rattle.texel.specs.Texel.{scaleColor, scaleAlpha, blended, packed, blend}
 use Rattle.texel.proofs.Blend as texel
 use Rattle.lanes.specs.Lanes.{lanes, widened, bytes, clear, multiples, top, grown, fitted, bias, joined, mixedLanes, texelLanes, Mask}
@@ -30,15 +32,20 @@ masked b r g a mb mr mg ma vb vr vg va hb hr hg lb lr lg eb er eg ea =
 
 and-bytes : (b r g a : ℕ) → b < 65536 → r < 65536 → g < 65536 → bitAnd (lanes b r g a) bytes ≡ lanes (b % 256) (r % 256) (g % 256) (a % 256)
 and-bytes b r g a hb hr hg =
-    masked b r g a 255 255 255 255 (b % 256) (r % 256) (g % 256) (a % 256) hb hr hg (omega arith) (omega arith) (omega arith) (and-mask b 8) (and-mask r 8) (and-mask g 8) (and-mask a 8)
+    masked b r g a 255 255 255 255 _ _ _ _ hb hr hg (omega arith) (omega arith) (omega arith)
+    (and-mask b 8) (and-mask r 8) (and-mask g 8) (and-mask a 8)
 
-and-clear : (b r g a : ℕ) → b < 65536 → r < 65536 → g < 65536 → bitAnd (lanes b r g a) clear ≡ lanes (b % 256) (r % 256) (g % 256) 0
-and-clear b r g a hb hr hg =
-    masked b r g a 255 255 255 0 (b % 256) (r % 256) (g % 256) 0 hb hr hg (omega arith) (omega arith) (omega arith) (and-mask b 8) (and-mask r 8) (and-mask g 8) (and-zero-r a)
+and-kept : (p : Bool) (b r g a : ℕ) → b < 65536 → r < 65536 → g < 65536
+    → bitAnd (lanes b r g a) (cond p clear bytes) ≡ lanes (b % 256) (r % 256) (g % 256) (cond p 0 (a % 256))
+and-kept true b r g a hb hr hg =
+    masked b r g a 255 255 255 0 _ _ _ _ hb hr hg (omega arith) (omega arith) (omega arith)
+    (and-mask b 8) (and-mask r 8) (and-mask g 8) (and-zero-r a)
+and-kept false b r g a hb hr hg = and-bytes b r g a hb hr hg
 
 and-top : (b r g a : ℕ) → b < 65536 → r < 65536 → g < 65536 → a < 65536 → bitAnd (lanes b r g a) top ≡ lanes 0 0 0 a
 and-top b r g a hb hr hg ha =
-    masked b r g a 0 0 0 65535 0 0 0 a hb hr hg (omega arith) (omega arith) (omega arith) (and-zero-r b) (and-zero-r r) (and-zero-r g) (and-mask a 16 ∙ omega arith)
+    masked b r g a 0 0 0 65535 _ _ _ _ hb hr hg (omega arith) (omega arith) (omega arith)
+    (and-zero-r b) (and-zero-r r) (and-zero-r g) (and-mask a 16 ∙ omega arith)
 
 -- each lane without its remainder
 multiple : (two : Bool) (x : ℕ) → x < 65536 → bitAnd x (65536 - half two) ≡ x / half two * half two
@@ -49,13 +56,13 @@ mask-small : (two : Bool) → 65536 - half two < 65536
 mask-small true = omega arith
 mask-small false = omega arith
 
-and-multiples : (two : Bool) (b r g a : ℕ) → b < 65536 → r < 65536 → g < 65536 → a < 65536
-    → bitAnd (lanes b r g a) (multiples (half two)) ≡ lanes (b / half two * half two) (r / half two * half two) (g / half two * half two) (a / half two * half two)
+and-multiples : (two : Bool) (b r g a : ℕ) → b < 65536 → r < 65536 → g < 65536 → a < 65536 → let h = half two in
+    bitAnd (lanes b r g a) (multiples h) ≡ lanes (b / h * h) (r / h * h) (g / h * h) (a / h * h)
 and-multiples two b r g a hb hr hg ha =
     masked b r g a _ _ _ _ _ _ _ _ hb hr hg (mask-small two) (mask-small two) (mask-small two)
     (multiple two b hb) (multiple two r hr) (multiple two g hg) (multiple two a ha)
 
-pub same : {b r g a b' r' g' a' : ℕ} → b ≡ b' → r ≡ r' → g ≡ g' → a ≡ a' → lanes b r g a ≡ lanes b' r' g' a'
+same : {b r g a b' r' g' a' : ℕ} → b ≡ b' → r ≡ r' → g ≡ g' → a ≡ a' → lanes b r g a ≡ lanes b' r' g' a'
 same p q r s = cc
 
 -- 33 times each lane, and alpha's once more
@@ -106,7 +113,8 @@ tops b r g hb hr hg =
     ap (λ (x : ℕ). bitAnd x 0x0000000100010001) (divided 8 8192 (omega arith) refl b r g 0)
     ∙ masked (b / 8 + 8192 * (r % 8)) (r / 8 + 8192 * (g % 8)) (g / 8 + 8192 * (0 % 8)) (0 / 8) 1 1 1 0 (b / 8) (r / 8) (g / 8) 0
     (omega arith) (omega arith) (omega arith) (omega arith) (omega arith) (omega arith)
-    (and-mask (b / 8 + 8192 * (r % 8)) 1 ∙ omega arith) (and-mask (r / 8 + 8192 * (g % 8)) 1 ∙ omega arith) (and-mask (g / 8 + 8192 * (0 % 8)) 1 ∙ omega arith) (and-zero-r (0 / 8))
+    (and-mask (b / 8 + 8192 * (r % 8)) 1 ∙ omega arith) (and-mask (r / 8 + 8192 * (g % 8)) 1 ∙ omega arith)
+    (and-mask (g / 8 + 8192 * (0 % 8)) 1 ∙ omega arith) (and-zero-r (0 / 8))
 
 pub widened-is : (b r g : ℕ) → b < 16 → r < 16 → g < 16 → widened (lanes b r g 0) ≡ lanes (b * 2 + b / 8) (r * 2 + r / 8) (g * 2 + g / 8) 0
 widened-is b r g hb hr hg = omega (arith, tops b r g hb hr hg)
@@ -115,24 +123,46 @@ widened-is b r g hb hr hg = omega (arith, tops b r g hb hr hg)
 abbrev pub sumLanes : PVRTCTexelColorInt → ℕ
 sumLanes s = lanes (s .b) (s .r) (s .g) (2 * s .a)
 
-abbrev pub plain : PVRTCTexelColorInt → ℕ
+abbrev plain : PVRTCTexelColorInt → ℕ
 plain s = lanes (s .b) (s .r) (s .g) (s .a)
 
--- the one rule brings every sum to 8 bits
-pub fits : (two : Bool) (s : PVRTCTexelColorInt) → Low (8 * half two) s → fitted (half two) (sumLanes s) ≡ plain (toBytes (half two) s)
-unfolding scaleColor scaleAlpha
-fits false s l =
-    let hb = l .b in let hr = l .r in let hg = l .g in let ha = l .a in
-    ap (λ (x : ℕ). bitAnd (grown x / 64) bytes) (and-multiples false (s .b) (s .r) (s .g) (2 * s .a) (omega arith) (omega arith) (omega arith) (omega arith))
-    ∙ ap (λ (x : ℕ). bitAnd (x / 64) bytes) (grown-lanes (s .b / 2 * 2) (s .r / 2 * 2) (s .g / 2 * 2) (2 * s .a / 2 * 2) (omega arith) (omega arith) (omega arith) (omega arith))
-    ∙ fit-lanes 64 1024 (omega arith) refl 4 refl (omega arith) (33 * (s .b / 2 * 2)) (33 * (s .r / 2 * 2)) (33 * (s .g / 2 * 2)) (34 * (2 * s .a / 2 * 2)) (omega arith) (omega arith) (omega arith) (omega arith)
-    ∙ same (omega arith) (omega arith) (omega arith) (omega arith)
-fits true s l =
-    let hb = l .b in let hr = l .r in let hg = l .g in let ha = l .a in
-    ap (λ (x : ℕ). bitAnd (grown x / 128) bytes) (and-multiples true (s .b) (s .r) (s .g) (2 * s .a) (omega arith) (omega arith) (omega arith) (omega arith))
-    ∙ ap (λ (x : ℕ). bitAnd (x / 128) bytes) (grown-lanes (s .b / 4 * 4) (s .r / 4 * 4) (s .g / 4 * 4) (2 * s .a / 4 * 4) (omega arith) (omega arith) (omega arith) (omega arith))
-    ∙ fit-lanes 128 512 (omega arith) refl 2 refl (omega arith) (33 * (s .b / 4 * 4)) (33 * (s .r / 4 * 4)) (33 * (s .g / 4 * 4)) (34 * (2 * s .a / 4 * 4)) (omega arith) (omega arith) (omega arith) (omega arith)
-    ∙ same (omega arith) (omega arith) (omega arith) (omega arith)
+-- the one rule brings each lane of a sum to 8 bits, and none runs over on the way
+abbrev Fit : Bool → (times x : ℕ) → ℕ → Type 0
+Fit two times x y = (x < 65536) × (x / half two * half two < 65536) × (times * (x / half two * half two) / (32 * half two) ≡ y)
+
+color-fit : (two : Bool) (x : ℕ) → x ≤ 31 * (8 * half two) → Fit two 33 x (scaleColor (half two) x)
+unfolding scaleColor
+color-fit true x h = (omega arith, omega arith, omega arith)
+color-fit false x h = (omega arith, omega arith, omega arith)
+
+alpha-fit : (two : Bool) (x : ℕ) → x ≤ 15 * (8 * half two) → Fit two 34 (2 * x) (scaleAlpha (half two) x)
+unfolding scaleAlpha
+alpha-fit true x h = (omega arith, omega arith, omega arith)
+alpha-fit false x h = (omega arith, omega arith, omega arith)
+
+-- how often 32 halves go into a lane, and into its upper byte
+abbrev often : Bool → ℕ
+often two = cond two 512 1024
+
+goes : (two : Bool) → (0 < 32 * half two) × (often two * (32 * half two) ≡ 65536) × (often two ≡ 256 * cond two 2 4) × (0 < cond two 2 4)
+goes true = (omega arith, refl, refl, omega arith)
+goes false = (omega arith, refl, refl, omega arith)
+
+-- so it brings every sum to 8 bits
+fits : (two : Bool) (s : PVRTCTexelColorInt) → Low (8 * half two) s → fitted (half two) (sumLanes s) ≡ plain (toBytes (half two) s)
+fits two s l =
+    let h = half two in
+    let k = texel.bytes two s l in
+    let to = goes two in
+    let b = color-fit two (s .b) (l .b) in
+    let r = color-fit two (s .r) (l .r) in
+    let g = color-fit two (s .g) (l .g) in
+    let a = alpha-fit two (s .a) (l .a) in
+    ap (λ (x : ℕ). bitAnd (grown x / (32 * h)) bytes) (and-multiples two (s .b) (s .r) (s .g) (2 * s .a) (b .0) (r .0) (g .0) (a .0))
+    ∙ ap (λ (x : ℕ). bitAnd (x / (32 * h)) bytes) (grown-lanes _ _ _ _ (b .1) (r .1) (g .1) (a .1))
+    ∙ fit-lanes (32 * h) (often two) (to .0) (to .1) (cond two 2 4) (to .2) (to .3) _ _ _ _
+    (rw (b .2) (k .b)) (rw (r .2) (k .r)) (rw (g .2) (k .g)) (rw (a .2) (k .a))
+    ∙ same (b .2) (r .2) (g .2) (a .2)
 
 -- the blend by one product
 times-lanes : (b r g a v : ℕ) → lanes b r g a * v ≡ lanes (b * v) (r * v) (g * v) (a * v)
@@ -170,19 +200,21 @@ lane-is x y w hx hw =
     let e5 = ap (λ (z : ℕ). x * z) f in
     omega arith
 
-module _ (x y w : ℕ) (hx : x < 256) (hy : y < 256) (hw : w ≤ 8) where
-  raised : (z : ℕ) → (lane x y w / 8 + 8192 * (z % 8)) % 256 ≡ blended x y w
-  unfolding blended
-  raised z = let b = bound x y w hx hy hw in let e = lane-is x y w hx hw in omega arith
-
-  raised-top : lane x y w / 8 % 256 ≡ blended x y w
-  unfolding blended
-  raised-top = let b = bound x y w hx hy hw in let e = lane-is x y w hx hw in omega arith
-
+-- what is known of it: with what crosses from the lane above, z, it lies in a lane, and its byte is the blend
+record Blends (x y w : ℕ) : Type 0 where
+  byte : blended x y w < 256
   within : (z : ℕ) → lane x y w / 8 + 8192 * (z % 8) < 65536
-  within z = let b = bound x y w hx hy hw in let e = lane-is x y w hx hw in omega arith
+  raised : (z : ℕ) → (lane x y w / 8 + 8192 * (z % 8)) % 256 ≡ blended x y w
+  alone : lane x y w / 8 % 256 ≡ blended x y w
 
-module _ (s t : PVRTCTexelColorInt) (w : ℕ) (hs : Bytes s) (ht : Bytes t) (hw : w ≤ 8) where
+blends : (x y w : ℕ) → x < 256 → y < 256 → w ≤ 8 → Blends x y w
+unfolding blended
+blends x y w hx hy hw =
+    let b = bound x y w hx hy hw in
+    let e = lane-is x y w hx hw in
+    record { byte = texel.blend-byte x y w hw hx hy; within = λ z. omega arith; raised = λ z. omega arith; alone = omega arith }
+
+module _ (s t : PVRTCTexelColorInt) (w : ℕ) (hs : EightBits s) (ht : EightBits t) (hw : w ≤ 8) where
   abbrev lb : ℕ
   lb = lane (s .b) (t .b) w
 
@@ -195,35 +227,30 @@ module _ (s t : PVRTCTexelColorInt) (w : ℕ) (hs : Bytes s) (ht : Bytes t) (hw 
   abbrev la : ℕ
   la = lane (s .a) (t .a) w
 
-  product : ((plain t + bias - plain s) * w + 8 * plain s) / 8 ≡ lanes (lb / 8 + 8192 * (lr % 8)) (lr / 8 + 8192 * (lg % 8)) (lg / 8 + 8192 * (la % 8)) (la / 8)
+  product : ((plain t + bias - plain s) * w + 8 * plain s) / 8
+      ≡ lanes (lb / 8 + 8192 * (lr % 8)) (lr / 8 + 8192 * (lg % 8)) (lg / 8 + 8192 * (la % 8)) (la / 8)
   product =
       ap (λ (x : ℕ). (x * w + 8 * plain s) / 8) (apart (s .b) (s .r) (s .g) (s .a) (t .b) (t .r) (t .g) (t .a) (hs .b) (hs .r) (hs .g) (hs .a))
       ∙ ap (λ (x : ℕ). (x + 8 * plain s) / 8) (times-lanes (t .b + 2048 - s .b) (t .r + 2048 - s .r) (t .g + 2048 - s .g) (t .a + 2048 - s .a) w)
-      ∙ ap (λ (x : ℕ). x / 8) (join8 ((t .b + 2048 - s .b) * w) ((t .r + 2048 - s .r) * w) ((t .g + 2048 - s .g) * w) ((t .a + 2048 - s .a) * w) (s .b) (s .r) (s .g) (s .a))
+      ∙ ap (λ (x : ℕ). x / 8) (join8 _ _ _ _ (s .b) (s .r) (s .g) (s .a))
       ∙ divided 8 8192 (omega arith) refl lb lr lg la
 
   -- what is kept of it is the texel's word
-  pub mix-is : (p : Bool) → mixedLanes (plain s) (plain t) w (cond p clear bytes) ≡ packed (blend (pixel s) (pixel t) w p)
-  mix-is false =
-      ap (λ (x : ℕ). joined (bitAnd x bytes)) product
-      ∙ ap joined
-      (and-bytes _ _ _ _ (within (s .b) (t .b) w (hs .b) (ht .b) hw lr) (within (s .r) (t .r) w (hs .r) (ht .r) hw lg) (within (s .g) (t .g) w (hs .g) (ht .g) hw la)
-      ∙ same (raised (s .b) (t .b) w (hs .b) (ht .b) hw lr) (raised (s .r) (t .r) w (hs .r) (ht .r) hw lg) (raised (s .g) (t .g) w (hs .g) (ht .g) hw la) (raised-top (s .a) (t .a) w (hs .a) (ht .a) hw))
-      ∙ joined-is _ _ _ _
-      (texel.blend-byte (s .b) (t .b) w hw (hs .b) (ht .b)) (texel.blend-byte (s .r) (t .r) w hw (hs .r) (ht .r))
-      (texel.blend-byte (s .g) (t .g) w hw (hs .g) (ht .g)) (texel.blend-byte (s .a) (t .a) w hw (hs .a) (ht .a))
-  mix-is true =
-      ap (λ (x : ℕ). joined (bitAnd x clear)) product
-      ∙ ap joined
-      (and-clear _ _ _ _ (within (s .b) (t .b) w (hs .b) (ht .b) hw lr) (within (s .r) (t .r) w (hs .r) (ht .r) hw lg) (within (s .g) (t .g) w (hs .g) (ht .g) hw la)
-      ∙ same {a = 0} {a' = 0} (raised (s .b) (t .b) w (hs .b) (ht .b) hw lr) (raised (s .r) (t .r) w (hs .r) (ht .r) hw lg) (raised (s .g) (t .g) w (hs .g) (ht .g) hw la) refl)
-      ∙ joined-is _ _ _ 0
-      (texel.blend-byte (s .b) (t .b) w hw (hs .b) (ht .b)) (texel.blend-byte (s .r) (t .r) w hw (hs .r) (ht .r))
-      (texel.blend-byte (s .g) (t .g) w hw (hs .g) (ht .g)) (omega arith)
+  mix-is : (p : Bool) → mixedLanes (plain s) (plain t) w (cond p clear bytes) ≡ packed (blend (pixel s) (pixel t) w p)
+  mix-is p =
+      let b = blends (s .b) (t .b) w (hs .b) (ht .b) hw in
+      let r = blends (s .r) (t .r) w (hs .r) (ht .r) hw in
+      let g = blends (s .g) (t .g) w (hs .g) (ht .g) hw in
+      let a = blends (s .a) (t .a) w (hs .a) (ht .a) hw in
+      let low : cond p 0 (blended (s .a) (t .a) w) ≤ 255 = cond-le p (omega arith) (omega arith) in
+      ap (λ (x : ℕ). joined (bitAnd x (cond p clear bytes))) product
+      ∙ ap joined (and-kept p _ _ _ _ (b .within lr) (r .within lg) (g .within la)
+      ∙ same (b .raised lr) (r .raised lg) (g .raised la) (ap (cond p 0) (a .alone)))
+      ∙ joined-is _ _ _ _ (b .byte) (r .byte) (g .byte) (omega arith)
 
 -- so a texel of two sums
-pub texel-lanes : (two : Bool) (s t : PVRTCTexelColorInt) (w : ℕ) (p : Bool) → Low (8 * half two) s → Low (8 * half two) t → w ≤ 8
-    → texelLanes (half two) (sumLanes s) (sumLanes t) w (cond p clear bytes) ≡ packed (blend (pixel (toBytes (half two) s)) (pixel (toBytes (half two) t)) w p)
+pub texel-lanes : (two : Bool) (s t : PVRTCTexelColorInt) (w : ℕ) (p : Bool) → Low (8 * half two) s → Low (8 * half two) t → w ≤ 8 → let h = half two in
+    texelLanes h (sumLanes s) (sumLanes t) w (cond p clear bytes) ≡ packed (blend (pixel (toBytes h s)) (pixel (toBytes h t)) w p)
 unfolding texelLanes
 texel-lanes two s t w p ls lt hw =
     ap₂ (λ (x y : ℕ). mixedLanes x y w (cond p clear bytes)) (fits two s ls) (fits two t lt)

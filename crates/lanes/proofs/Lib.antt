@@ -1,13 +1,11 @@
-pub mod Bytes
+pub mod ByteLanes
 pub mod Lane
 pub mod Laying
 pub mod Linear
 pub mod Placing
 pub mod Reading
 pub mod Sliding
-pub mod Sliding2
-pub mod Sliding4
 pub mod Stored
-pub mod Texel2
-pub mod Texel4
+pub mod Texel2bpp
+pub mod Texel4bpp
 pub mod Window

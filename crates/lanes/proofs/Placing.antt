@@ -1,29 +1,27 @@
 -- Where words stand: bits spread by masks, and an address as the sum of what its column and its row add. Assumes nothing.
+use mathlib.Core.Bool.{Bool}
 use mathlib.Core.Path.{_≡_, refl, sym, ap, ap₂, _∙_}
-use mathlib.Core.List.{List}
-use Prim.Native.Nat.{ℕ, zero, suc, _+_, _*_, _/_, _%_, _-_, _≤_, _<_, min}
-use native.Mathlib.Nat.{add-mod-right, mod-self, mod-eq-of-lt}
+use Prim.Native.Nat.{ℕ, zero, suc, _+_, _*_, _/_, _-_, _≤_, _<_, min}
 use native.Mathlib.Omega.{arith}
 use lib.Bits.{bitAnd, bitOr, and-zero-l}
 use lib.Dec.{eqb, eqb→eq}
 use Rattle.facts.proofs.Finite.{below}
-use Rattle.grid.proofs.Address.{placed, address-small}
-use Rattle.grid.proofs.Powers.{power-above}
+use Rattle.grid.proofs.Address.{address-small}
 use Rattle.grid.proofs.Spreading.{by-table}
-use Rattle.grid.proofs.Torus.{beside-below, beside-own}
-use Rattle.grid.specs.Grid.{Power, log2, address, blockAddress, beside, spreadBits, Placed}
-use Rattle.texel.proofs.Nine.{located}
-use Rattle.texel.specs.Inner.{Grid}
-use Rattle.lanes.specs.declared.Column.{Column}
-use Rattle.lanes.specs.declared.Strip.{Strip}
-use Rattle.lanes.specs.Column.{columnOf}
-use Rattle.lanes.specs.Strip.{stripOf, InColumn}
+use Rattle.grid.proofs.Torus.{beside-own}
+use Rattle.grid.proofs.Words.{some-across, some-down, beside-in, placed-in, located}
+use Rattle.grid.specs.declared.Grid.{Grid}
+use Rattle.grid.specs.Grid.{blockWidth, blocks, log2, address, blockAddress, beside, spreadBits, Placed}
+use Rattle.grid.specs.Words.{Stands}
+use Rattle.paint.specs.declared.Sheet.{Sheet}
+use Rattle.lanes.specs.declared.RowAddresses.{RowAddresses}
+use Rattle.lanes.specs.BlockRow.{addressesOf, InColumn, Ready}
 
 -- eight bits spread by masks
 abbrev pub once : ℕ → ℕ
 once b = bitAnd (bitOr b (b * 16)) 0x0f0f
 
-abbrev pub twice : ℕ → ℕ
+abbrev twice : ℕ → ℕ
 twice c = bitAnd (bitOr c (c * 4)) 0x3333
 
 abbrev thrice : ℕ → ℕ
@@ -52,104 +50,79 @@ unfolding address
 parts zero x y = omega arith
 parts (suc k) x y = omega (arith, parts k (x / 2) (y / 2))
 
--- the row of blocks, as the code makes it
-pub strip-is : (gx gy y : ℕ) → y < gy → {m u o e p n : ℕ} → m ≡ min gx gy → p ≡ beside gy y 0 → n ≡ beside gy y 2
-    → u ≡ address (log2 m) 0 p → o ≡ address (log2 m) 0 y → e ≡ address (log2 m) 0 n
-    → record { nx = gx; ny = gy; by = y; m = m; u = u; o = o; e = e } ≡ stripOf gx gy y
-unfolding stripOf
-strip-is gx gy y h em ep en eu eo ee = rw (beside-own gy y h, ← ep, ← en, ← em, eu, eo, ee)
+-- what the rows of blocks add, as the code makes it
+pub addresses-are : (g : Grid) (by : ℕ) → by < g .down → {m u o e p n : ℕ} → m ≡ min (g .across) (g .down) → p ≡ beside (g .down) by 0
+    → n ≡ beside (g .down) by 2 → u ≡ address (log2 m) 0 p → o ≡ address (log2 m) 0 by → e ≡ address (log2 m) 0 n
+    → record { smaller = m; above = u; own = o; below = e } ≡ addressesOf g by
+unfolding addressesOf
+addresses-are g by h em ep en eu eo ee = rw (beside-own (g .down) by h, ← ep, ← en, ← em, eu, eo, ee)
 
-pub placed-row : (gx gy y : ℕ) {m : ℕ} → m ≡ min gx gy → Power gx → Power gy → gx ≤ 65536 → gy ≤ 65536 → y < gy → Placed m 0 y
-placed-row gx gy y e px py lx ly h = rw e (placed gx gy 0 y px py lx ly (power-above gx px) h)
+-- row k = 0, 1, 2 beside row `by` meets what its address asks
+pub placed-row : {g : Grid} {len : ℕ} → Stands g len → (by k : ℕ) {m y : ℕ} → m ≡ min (g .across) (g .down) → y ≡ beside (g .down) by k → Placed m 0 y
+placed-row s by k em ey = rw ey (placed-in s (record { across = some-across s; down = beside-in s 0 by 0 k .down }) em)
 
-pub beside-in : (g y k : ℕ) {r : ℕ} → Power g → r ≡ beside g y k → r < g
-beside-in g y k p e = rw e (beside-below g y k (power-above g p))
+-- column 0 is block 0's own
+pub first-column : {g : Grid} {len : ℕ} → Stands g len → 0 ≡ beside (g .across) 0 1
+first-column {g} s = sym (beside-own (g .across) 0 (some-across s))
 
--- a row of a grid whose words stand in a run of `len` bytes
-pub record InStrip (s : Strip) (len : ℕ) : Type 0 where
-  pub is : s ≡ stripOf (s .nx) (s .ny) (s .by)
-  pub grid : Grid (s .nx) (s .ny) len
-  pub row : s .by < s .ny
+-- v is what is read of column k = 0, 1, 2 beside block bx, round the torus, and is good
+pub record Seen {A : Type 0} (Good : A → Type 0) (read : ℕ → A) (side bx k : ℕ) (v : A) : Type 0 where
+  pub is : v ≡ read (beside side bx k)
+  pub good : Good v
 
--- the address of the word in column x of the row above, own or below (0, 1, 2)
-abbrev pub placeIn : Strip → ℕ → ℕ → ℕ
-placeIn s x j = blockAddress (s .nx) (s .ny) x (beside (s .ny) (s .by) j)
+-- what the column adds to an address
+abbrev pub SeenPart : Grid → RowAddresses → ℕ → ℕ → ℕ → Type 0
+SeenPart g row = Seen (λ part. Unit {0}) (λ x. address (log2 (row .smaller)) x 0) (g .across)
 
--- the three words of column x, summed downwards
-abbrev pub columnIn : Strip → List ℕ → ℕ → Column
-columnIn s d x = columnOf d (placeIn s x 0) (placeIn s x 1) (placeIn s x 2)
+-- the address of the word in column x of the row above, own or below (0, 1, 2) row `by`, and in column i beside block bx
+abbrev pub placeIn : Grid → (by x j : ℕ) → ℕ
+placeIn g by x j = blockAddress (g .across) (g .down) x (beside (g .down) by j)
 
--- the words of a column of the row
-module _ {s : Strip} {len : ℕ} (i : InStrip s len) where
-  m-is : s .m ≡ min (s .nx) (s .ny)
-  unfolding stripOf
-  m-is = ap (λ (t : Strip). t .m) (i .is)
+abbrev pub placeAt : Grid → (by bx i j : ℕ) → ℕ
+placeAt g by bx i j = placeIn g by (beside (g .across) bx i) j
 
-  u-is : s .u ≡ address (log2 (min (s .nx) (s .ny))) 0 (beside (s .ny) (s .by) 0)
-  unfolding stripOf
-  u-is = ap (λ (t : Strip). t .u) (i .is)
+-- the addresses of row `by` of a grid whose words stand in `len` bytes
+pub record RowAt (g : Grid) (by len : ℕ) (row : RowAddresses) : Type 0 where
+  pub words : Stands g len
+  pub is : row ≡ addressesOf g by
 
-  o-is : s .o ≡ address (log2 (min (s .nx) (s .ny))) 0 (beside (s .ny) (s .by) 1)
-  unfolding stripOf
-  o-is = ap (λ (t : Strip). t .o) (i .is)
+module _ {g : Grid} {by len : ℕ} {row : RowAddresses} (r : RowAt g by len row) where
+  -- a column as the code names it, and what it adds
+  module _ (bx k : ℕ) {x : ℕ} (ex : x ≡ beside (g .across) bx k) where
+    pub placed-column : Placed (row .smaller) x 0
+    unfolding addressesOf
+    placed-column = rw (r .is, ex) (placed-in (r .words) (record { across = beside-in (r .words) bx by k 0 .across; down = some-down (r .words) }) refl)
 
-  e-is : s .e ≡ address (log2 (min (s .nx) (s .ny))) 0 (beside (s .ny) (s .by) 2)
-  unfolding stripOf
-  e-is = ap (λ (t : Strip). t .e) (i .is)
+    pub part-seen : {part : ℕ} → part ≡ address (log2 (row .smaller)) x 0 → SeenPart g row bx k part
+    part-seen ep = record { is = ep ∙ ap (λ (x : ℕ). address (log2 (row .smaller)) x 0) ex; good = tt }
 
-  module _ (x : ℕ) (h : x < s .nx) where
-    pub placed-column : Placed (s .m) x 0
-    placed-column =
-        rw m-is
-        (placed (s .nx) (s .ny) x 0 (i .grid .power-across) (i .grid .power-down) (i .grid .across) (i .grid .down) h (power-above (s .ny) (i .grid .power-down)))
+  -- its words
+  module _ {bx k part : ℕ} (p : SeenPart g row bx k part) where
+    abbrev Word : (j z : ℕ) → Type 0
+    Word j z = (z ≡ placeAt g by bx k j) × (8 * z + 8 ≤ len)
 
-    -- a word's address, and that it lies in the data
-    module _ {p : ℕ} (e : p ≡ address (log2 (s .m)) x 0) where
-      word-in : (j v : ℕ) → v ≡ address (log2 (min (s .nx) (s .ny))) 0 (beside (s .ny) (s .by) j) → (p + v ≡ placeIn s x j) × (8 * (p + v) + 8 ≤ len)
-      word-in j v ev =
-          located (s .nx) (s .ny) len x (beside (s .ny) (s .by) j) (min (s .nx) (s .ny)) (p + v) (i .grid) h
-          (beside-below (s .ny) (s .by) j (power-above (s .ny) (i .grid .power-down))) refl
-          (ap₂ (λ (m n : ℕ). m + n) (e ∙ ap (λ (n : ℕ). address (log2 n) x 0) m-is) ev ∙ parts (log2 (min (s .nx) (s .ny))) x (beside (s .ny) (s .by) j))
+    word-in : (j v : ℕ) → v ≡ address (log2 (min (g .across) (g .down))) 0 (beside (g .down) by j) → Word j (part + v)
+    unfolding addressesOf
+    word-in j v ev =
+        let e : part ≡ address (log2 (min (g .across) (g .down))) (beside (g .across) bx k) 0 = rw (r .is) at (p .is) in
+        located (r .words) (beside-in (r .words) bx by k j) refl (ap₂ (λ (m n : ℕ). m + n) e ev ∙ parts _ _ _)
 
-      word-u : (p + s .u ≡ placeIn s x 0) × (8 * (p + s .u) + 8 ≤ len)
-      word-u = word-in 0 (s .u) u-is
+    pub word-above : Word 0 (part + row .above)
+    unfolding addressesOf
+    word-above = word-in 0 (row .above) (ap (λ (a : RowAddresses). a .above) (r .is))
 
-      word-o : (p + s .o ≡ placeIn s x 1) × (8 * (p + s .o) + 8 ≤ len)
-      word-o = word-in 1 (s .o) o-is
+    pub word-own : Word 1 (part + row .own)
+    unfolding addressesOf
+    word-own = word-in 1 (row .own) (ap (λ (a : RowAddresses). a .own) (r .is))
 
-      word-e : (p + s .e ≡ placeIn s x 2) × (8 * (p + s .e) + 8 ≤ len)
-      word-e = word-in 2 (s .e) e-is
+    pub word-below : Word 2 (part + row .below)
+    unfolding addressesOf
+    word-below = word-in 2 (row .below) (ap (λ (a : RowAddresses). a .below) (r .is))
 
-      pub in-column : InColumn s p len
-      in-column = record { above = word-u .1; own = word-o .1; below = word-e .1 }
+    pub in-column : InColumn row part len
+    in-column = record { above = word-above .1; own = word-own .1; below = word-below .1 }
 
-      pub words-are : (p + s .u ≡ placeIn s x 0) × (p + s .o ≡ placeIn s x 1) × (p + s .e ≡ placeIn s x 2)
-      words-are = (word-u .0, word-o .0, word-e .0)
-
--- the next column, round the torus
-pub next-is : (g q : ℕ) → q + 1 < g → q + 1 ≡ beside g q 2
-unfolding beside
-next-is g q h =
-    let e : q + 2 + g - 1 ≡ q + 1 + g = omega arith in
-    sym (ap (λ (n : ℕ). n % g) e ∙ add-mod-right (q + 1) g ∙ mod-eq-of-lt h)
-
-pub first-is : (g q : ℕ) → q < g → g ≤ q + 1 → 0 ≡ beside g q 2
-unfolding beside
-first-is g q h l =
-    let e : q + 2 + g - 1 ≡ g + g = omega arith in
-    sym (ap (λ (n : ℕ). n % g) e ∙ add-mod-right g g ∙ mod-self g)
-
--- the window's columns before the first block, and after a step
-pub last-before : (g : ℕ) → 0 < g → g - 1 ≡ beside g 0 0
-unfolding beside
-last-before g h =
-    let e : 0 + 0 + g - 1 ≡ g - 1 = omega arith in
-    sym (ap (λ (n : ℕ). n % g) e ∙ mod-eq-of-lt (omega arith))
-
-pub slide-left : (g q : ℕ) → beside g q 1 ≡ beside g (q + 1) 0
-unfolding beside
-slide-left g q = ap (λ (n : ℕ). n % g) (omega arith)
-
-pub slide-own : (g q : ℕ) → beside g q 2 ≡ beside g (q + 1) 1
-unfolding beside
-slide-own g q = ap (λ (n : ℕ). n % g) (omega arith)
+-- a block that covers a row is one of the grid's
+pub covers : {g : Grid} {by : ℕ} {row : Sheet} {len room : ℕ} → Ready g by row len room → {two : Bool} → g .is2bpp ≡ two → {n bx : ℕ}
+    → n ≡ blocks (blockWidth two) (row .width) → bx < n → bx < g .across
+covers r e en h = omega (arith, rw e at (r .cover), en, h)

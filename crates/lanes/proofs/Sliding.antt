@@ -1,132 +1,131 @@
--- The window slides along a row of blocks, and the blocks make the row. Assumes nothing.
-use mathlib.Core.Path.{_≡_, refl, sym, ap, _∙_}
-use mathlib.Core.Bool.{Bool}
+-- The window slides along a row of blocks, at either depth, and its texels are the grid's. Assumes nothing.
+use mathlib.Core.Path.{_≡_, refl, ap, _∙_}
+use mathlib.Core.Bool.{Bool, true, false}
 use mathlib.Core.List.{List}
-use Prim.Native.Nat.{ℕ, _+_, _*_, _-_, _≤_, _<_, min}
-use native.Mathlib.Nat.{mul-le-mul-right}
+use Prim.Native.Nat.{ℕ, _+_, _*_, _%_, _≤_, _<_}
 use native.Mathlib.Omega.{arith}
 use lib.ListN.{length}
 use Rattle.facts.proofs.Numbers.{split}
-use Rattle.grid.proofs.Counts.{block-start, blocks-cover}
-use Rattle.grid.proofs.Powers.{power-above}
-use Rattle.grid.specs.Grid.{half, blockWidth, log2, address, Placed}
-use Rattle.paint.proofs.Laid.{Part, part-empty, columns-part}
-use Rattle.paint.proofs.Painted.{painted-same}
-use Rattle.paint.specs.Paint.{painted}
-use Rattle.texel.proofs.Shares.{half-low}
-use Rattle.texel.specs.Texel.{packed, texelIn, about, texelAt, wordsOf, texelWord}
+use Rattle.grid.specs.declared.Grid.{Grid}
+use Rattle.grid.specs.Grid.{half, blockWidth, beside}
+use Rattle.paint.proofs.Sheets.{columns-fit, BlocksLaid, next-block}
+use Rattle.paint.specs.declared.Sheet.{Sheet}
+use Rattle.paint.specs.Sheet.{onSheet, columnsFrom, Fits}
+use Rattle.texel.proofs.Range.{words}
+use Rattle.texel.specs.Texel.{packed, texelIn, texelAt, gridTexel}
+use Rattle.lanes.specs.declared.Codes.{Codes}
 use Rattle.lanes.specs.declared.Column.{Column}
-use Rattle.lanes.specs.declared.Spot.{Spot}
-use Rattle.lanes.specs.declared.Strip.{Strip}
-use Rattle.lanes.proofs.Laying.{start-small}
-use Rattle.lanes.proofs.Placing.{InStrip, placeIn, columnIn, placed-column, in-column, words-are}
-use Rattle.lanes.specs.Column.{columnOf, Fits}
-use Rattle.lanes.specs.Strip.{stripOf, InColumn, Ready, SpotAsked, SpotFits, spotOf, withBlockRow}
+use Rattle.lanes.specs.declared.FillRule.{FillRule}
+use Rattle.lanes.specs.declared.RowAddresses.{RowAddresses}
+use Rattle.lanes.specs.declared.Weights.{Weights}
+use Rattle.lanes.specs.Block2bpp.{weightRows, fillRuleOf, filledRows, inBlock2bpp, LowRows}
+use Rattle.lanes.specs.Block4bpp.{codesOf, inBlock4bpp}
+use Rattle.lanes.specs.BlockRow.{Ready}
+use Rattle.lanes.specs.Column.{wordAt, columnOf, SmallColumn}
+use Rattle.lanes.proofs.Placing.{Seen, SeenPart, placeIn, placeAt, RowAt, word-above, word-own, word-below}
+use Rattle.lanes.proofs.Texel2bpp as texel-2bpp
+use Rattle.lanes.proofs.Texel4bpp as texel-4bpp
 
--- a block is some texels across
-wide : (two : Bool) → 0 < blockWidth two
-wide two = omega (arith, half-low two)
+-- a step of the window: the next block has it one column earlier
+pub slide : {A : Type 0} {Good : A → Type 0} {read : ℕ → A} {side bx : ℕ} {v : A} (k : ℕ) → Seen Good read side bx (k + 1) v → Seen Good read side (bx + 1) k v
+unfolding beside
+slide {read = read} {side = side} k s = record { is = s .is ∙ ap (λ (n : ℕ). read (n % side)) (omega arith); good = s .good }
 
--- a texel of a block is a texel of the run
-pub of-run : (two : Bool) (gx gy : ℕ) (d : List ℕ) (bx by i j : ℕ) → i < blockWidth two → j < 4
-    → packed (texelIn (half two) (about gx gy (wordsOf two gx gy d) bx by) i j) ≡ texelWord two gx gy d (bx * blockWidth two + i) (by * 4 + j)
+-- what is read of column x of row `by`: its three words, summed downwards, and its own word's codes, and weights
+module _ (g : Grid) (by : ℕ) (d : List ℕ) where
+  abbrev columnIn : ℕ → Column
+  columnIn x = columnOf d (placeIn g by x 0) (placeIn g by x 1) (placeIn g by x 2)
+
+  abbrev codesIn : ℕ → Codes
+  codesIn x = codesOf (wordAt d (placeIn g by x 1))
+
+  abbrev weightsIn : ℕ → Weights
+  weightsIn x = weightRows (wordAt d (placeIn g by x 1))
+
+  abbrev pub SeenColumn : ℕ → ℕ → Column → Type 0
+  SeenColumn = Seen SmallColumn columnIn (g .across)
+
+  abbrev pub SeenCodes : ℕ → ℕ → Codes → Type 0
+  SeenCodes = Seen (λ k. k .start ≤ 4) codesIn (g .across)
+
+  abbrev pub SeenWeights : ℕ → ℕ → Weights → Type 0
+  SeenWeights = Seen LowRows weightsIn (g .across)
+
+-- the window before block bx, as the loop keeps it, at 4bpp and at 2bpp: of the column before the block and of its own
+pub record Window4bpp (g : Grid) (by : ℕ) (d : List ℕ) (bx : ℕ) (l o : Column) (k : Codes) : Type 0 where
+  pub left : SeenColumn g by d bx 0 l
+  pub own : SeenColumn g by d bx 1 o
+  pub codes : SeenCodes g by d bx 1 k
+
+pub record Window2bpp (g : Grid) (by : ℕ) (d : List ℕ) (row : RowAddresses) (bx : ℕ) (l o : Column) (wl wo : Weights) (q : ℕ) : Type 0 where
+  pub left : SeenColumn g by d bx 0 l
+  pub own : SeenColumn g by d bx 1 o
+  pub left-weights : SeenWeights g by d bx 0 wl
+  pub own-weights : SeenWeights g by d bx 1 wo
+  pub part : SeenPart g row bx 1 q
+
+-- the code reads them by what the column adds to an address
+module _ {g : Grid} {by len bx k part : ℕ} {row : RowAddresses} (r : RowAt g by len row) (p : SeenPart g row bx k part) (d : List ℕ) where
+  abbrev three : {A : Type 0} → (ℕ → ℕ → ℕ → A) → A
+  three f = f (part + row .above) (part + row .own) (part + row .below)
+
+  words-are : {A : Type 0} (f : ℕ → ℕ → ℕ → A) → three f ≡ f (placeAt g by bx k 0) (placeAt g by bx k 1) (placeAt g by bx k 2)
+  words-are f = rw (word-above r p .0, word-own r p .0, word-below r p .0)
+
+  pub column-seen : {v : Column} → (v ≡ three (columnOf d)) × SmallColumn v → SeenColumn g by d bx k v
+  column-seen e = record { is = e .0 ∙ words-are (columnOf d); good = e .1 }
+
+  pub codes-seen : {v : Codes} → (v ≡ codesOf (wordAt d (part + row .own))) × (v .start ≤ 4) → SeenCodes g by d bx k v
+  codes-seen e = record { is = e .0 ∙ words-are (λ u o e. codesOf (wordAt d o)); good = e .1 }
+
+  pub weights-seen : {v : Weights} → (v ≡ weightRows (wordAt d (part + row .own))) × LowRows v → SeenWeights g by d bx k v
+  weights-seen e = record { is = e .0 ∙ words-are (λ u o e. weightRows (wordAt d o)); good = e .1 }
+
+  pub rule-of : {v : FillRule} → v ≡ three (λ u o e. fillRuleOf (wordAt d u) (wordAt d o) (wordAt d e))
+      → v ≡ fillRuleOf (wordAt d (placeAt g by bx k 0)) (wordAt d (placeAt g by bx k 1)) (wordAt d (placeAt g by bx k 2))
+  rule-of e = e ∙ words-are (λ u o e. fillRuleOf (wordAt d u) (wordAt d o) (wordAt d e))
+
+-- a texel of a block is a texel of the grid
+of-grid : (g : Grid) (d : List ℕ) (bx by i j : ℕ) {two : Bool} → g .is2bpp ≡ two → i < blockWidth two → j < 4
+    → packed (texelIn (half two) (words two (λ p q. wordAt d (placeAt g by bx p q))) i j)
+    ≡ gridTexel g d (bx * blockWidth two + i) (by * 4 + j)
 unfolding texelAt
-of-run two gx gy d bx by i j hi hj =
+of-grid g d bx by i j {two} e hi hj =
     let x = split (blockWidth two) (bx * blockWidth two + i) bx i refl hi in
     let y = split 4 (by * 4 + j) by j refl hj in
-    rw (x .0, x .1, y .0, y .1)
+    rw (e, x .0, x .1, y .0, y .1)
 
--- the first bx blocks of the row are laid
-abbrev pub BlocksLaid : Bool → (w h gx gy by : ℕ) → List ℕ → ℕ → (old img : List ℕ) → Type 0
-BlocksLaid two w h gx gy by d bx old img =
-    Part (λ x y. texelWord two gx gy d x (by * 4 + y)) old (by * 4 * w) w (min w (bx * blockWidth two)) (min 4 (h - by * 4)) img
+-- the texels of the block between three columns are the grid's
+module _ (g : Grid) (by bx : ℕ) (d : List ℕ) {l o r : Column} (right : SeenColumn g by d bx 2 r) where
+  pub texels-4bpp : {k : Codes} → g .is2bpp ≡ false → Window4bpp g by d bx l o k
+      → (i j : ℕ) → i < 4 → j < 4 → inBlock4bpp l o r k i j ≡ gridTexel g d (bx * 4 + i) (by * 4 + j)
+  texels-4bpp e w i j hi hj =
+      rw (w .left .is, w .own .is, right .is, w .codes .is) (texel-4bpp.texel-is d (placeAt g by bx) i j hi hj ∙ of-grid g d bx by i j e hi hj)
 
-pub no-blocks : (two : Bool) (w h gx gy by : ℕ) (d old : List ℕ) → BlocksLaid two w h gx gy by d 0 old old
-no-blocks two w h gx gy by d old =
-    let none : min w (0 * blockWidth two) ≡ 0 = omega arith in
-    rw none (part-empty _ old _ _ _)
+  pub texels-2bpp : {row : RowAddresses} {wl wo wr filled : Weights} {q : ℕ} {rule : FillRule} → g .is2bpp ≡ true → Window2bpp g by d row bx l o wl wo q
+      → SeenWeights g by d bx 2 wr
+      → rule ≡ fillRuleOf (wordAt d (placeAt g by bx 1 0)) (wordAt d (placeAt g by bx 1 1)) (wordAt d (placeAt g by bx 1 2))
+      → filled ≡ filledRows wl wo wr rule → (i j : ℕ) → i < 8 → j < 4
+      → inBlock2bpp l o r filled i j ≡ gridTexel g d (bx * 8 + i) (by * 4 + j)
+  texels-2bpp e w next er ef i j hi hj =
+      rw (w .left .is, w .own .is, right .is, ef, w .left-weights .is, w .own-weights .is, next .is, er)
+      (texel-2bpp.texel-is d (placeAt g by bx) i j hi hj ∙ of-grid g d bx by i j e hi hj)
 
-module _ (two : Bool) {w h gx gy by len room : ℕ} (r : Ready two w h gx gy by len room) where
-  starts-down : by * 4 < h
-  starts-down = block-start 4 h (omega arith) by (rw (r .is-down) at (r .row))
+-- the texels of the row, and that those of its first n blocks are laid on its sheet
+abbrev pub rowTexel : Grid → ℕ → List ℕ → ℕ → ℕ → ℕ
+rowTexel g by d x y = gridTexel g d x (by * 4 + y)
 
-  starts-across : (bx : ℕ) → bx < gx → bx * blockWidth two < w
-  starts-across bx hx = block-start (blockWidth two) w (wide two) bx (rw (r .is-across) at hx)
+abbrev pub RowSoFar : Grid → ℕ → Sheet → (size : ℕ) → (d old : List ℕ) → ℕ → List ℕ → Type 0
+RowSoFar g by row size d old = BlocksLaid row size (rowTexel g by d) old
 
-  pub asked : (bx bw : ℕ) → bx < gx → bw ≡ blockWidth two → SpotAsked w h bx by bw
-  asked bx bw hx e = record { starts-across = rw e (starts-across bx hx); starts-down = starts-down; small-w = r .small-w; small-h = r .small-h }
+-- a block that starts in the row, and its part of the sheet
+module _ {g : Grid} {by len room : ℕ} {row : Sheet} (r : Ready g by row len room) (size bx : ℕ) {part : Sheet} (h : bx * size < row .width)
+    (e : part ≡ columnsFrom row (bx * size) size) where
+  pub part-fits : Fits part room × (part .width ≤ size) × (part .height ≤ 4)
+  part-fits = rw e (columns-fit (r .fits) (bx * size) size h, omega arith, r .few)
 
-  -- a word of the row is one of the lent words
-  in-room : (x y : ℕ) → x < w → y < min 4 (h - by * 4) → by * 4 * w + (y * w + x) < room
-  in-room x y hx hy =
-      let below : by * 4 + y + 1 ≤ h = omega arith in
-      omega (arith, mul-le-mul-right w below, r .roomy)
-
-  pub spot-fits : (bx bw : ℕ) {p : Spot} → bx < gx → bw ≡ blockWidth two → p ≡ spotOf w h bx by bw → SpotFits p bw room
-  spot-fits bx bw hx ew ep = rw (ep, ew) spot
-    where
-      spot : SpotFits (spotOf w h bx by (blockWidth two)) (blockWidth two) room
-      spot =
-          let a = starts-across bx hx in
-          let d = starts-down in
-          let c : ℕ = min (blockWidth two) (w - bx * blockWidth two) in
-          let last = in-room (bx * blockWidth two + c - 1) (min 4 (h - by * 4) - 1) (omega (arith, wide two)) (omega arith) in
-          record {
-            columns = omega arith;
-            across = omega arith;
-            rows = (omega arith, omega arith);
-            narrow = r .small-w;
-            early = start-small w h bx by (blockWidth two) (asked bx (blockWidth two) hx refl);
-            roomy = omega (arith, wide two);
-          }
-
-  -- one block more
-  pub next-block : (bx bw : ℕ) (d old : List ℕ) (f : ℕ → ℕ → ℕ) {p : Spot} {img new : List ℕ} → room ≡ length old → bx < gx → bw ≡ blockWidth two → p ≡ spotOf w h bx by bw
-      → ((x y : ℕ) → x < blockWidth two → y < 4 → f x y ≡ texelWord two gx gy d (bx * blockWidth two + x) (by * 4 + y))
-      → BlocksLaid two w h gx gy by d bx old img → new ≡ painted (p .at) (p .width) (p .columns) (p .rows) f img → BlocksLaid two w h gx gy by d (bx + 1) old new
-  next-block bx bw d old f {p} {img} el hx ew ep same part e =
-      let starts = starts-across bx hx in
-      let m : ℕ = min (blockWidth two) (w - bx * blockWidth two) in
-      let so-far : min w (bx * blockWidth two) ≡ bx * blockWidth two = omega arith in
-      let then : bx * blockWidth two + m ≡ min w ((bx + 1) * blockWidth two) = omega arith in
-      let q = e ∙ ap (λ (p : Spot). painted (p .at) (p .width) (p .columns) (p .rows) f img) (ep ∙ ap (spotOf w h bx by) ew)
-      ∙ painted-same (by * 4 * w + bx * blockWidth two) w m (min 4 (h - by * 4)) f (λ x y. texelWord two gx gy d (bx * blockWidth two + x) (by * 4 + y)) img (omega arith)
-      (λ x y lx ly. same x y (omega arith) (omega arith)) in
-      rw (← then)
-      (columns-part m (rw so-far at part) (omega arith) (λ x y lx ly. rw (← el) (in-room x y (omega arith) ly)) q)
-
-  -- all of them are the row of blocks
-  pub all-blocks : (bx : ℕ) (d old : List ℕ) {img : List ℕ} → bx ≡ gx → BlocksLaid two w h gx gy by d bx old img → img ≡ withBlockRow two w h gx gy by d old
-  all-blocks bx d old e part =
-      let cover : w ≤ bx * blockWidth two = rw (e ∙ r .is-across) (blocks-cover (blockWidth two) w (wide two)) in
-      let full : min w (bx * blockWidth two) ≡ w = omega arith in
-      (rw full at part) .is
-
-  -- column x of the row, and what it adds to an address
-  module _ (x : ℕ) {s : Strip} (es : s ≡ stripOf gx gy by) (hx : x < gx) where
-    in-strip : InStrip s len × (x < s .nx)
-    unfolding stripOf
-    in-strip = rw es (record { is = refl; grid = r .grid; row = r .row }, hx)
-
-    pub placed-at : Placed (s .m) x 0
-    placed-at = placed-column (in-strip .0) x (in-strip .1)
-
-    module _ {q : ℕ} (e : q ≡ address (log2 (s .m)) x 0) where
-      pub words-in : InColumn s q len
-      words-in = in-column (in-strip .0) x (in-strip .1) e
-
-      pub words-at : (q + s .u ≡ placeIn s x 0) × (q + s .o ≡ placeIn s x 1) × (q + s .e ≡ placeIn s x 2)
-      words-at = words-are (in-strip .0) x (in-strip .1) e
-
-      pub column-of : (d : List ℕ) {k : Column} → (k ≡ columnOf d (q + s .u) (q + s .o) (q + s .e)) × Fits k → (k ≡ columnIn s d x) × Fits k
-      column-of d ek = (ek .0 ∙ rw (words-at .0, words-at .1, words-at .2), ek .1)
-
-  pub some-columns : 0 < gx
-  some-columns = power-above gx (r .grid .power-across)
-
--- a depth by another name
-pub at-depth : {two other : Bool} {w h gx gy by len room : ℕ} → two ≡ other → Ready two w h gx gy by len room → Ready other w h gx gy by len room
-at-depth e r = rw e at r
-
-pub of-depth : {two other : Bool} (w h gx gy by : ℕ) (d old : List ℕ) {new : List ℕ} → two ≡ other → new ≡ withBlockRow other w h gx gy by d old → new ≡ withBlockRow two w h gx gy by d old
-of-depth w h gx gy by d old e q = q ∙ ap (λ (two : Bool). withBlockRow two w h gx gy by d old) (sym e)
+  pub block-laid : (d old : List ℕ) (f : ℕ → ℕ → ℕ) {img new : List ℕ} → room ≡ length old → new ≡ onSheet part f img
+      → ((x y : ℕ) → x < size → y < 4 → f x y ≡ rowTexel g by d (bx * size + x) y)
+      → RowSoFar g by row size d old bx img → RowSoFar g by row size d old (bx + 1) new
+  block-laid d old f el en same laid =
+      next-block row size (rowTexel g by d) old (rw el at (r .fits)) bx f en h e (λ x y lx ly. same x y lx (omega (arith, r .few))) laid

@@ -6,6 +6,7 @@ use lib.ListN.{getD, drop}
 use Rattle.facts.specs.Tab.{tab}
 use Rattle.word.specs.Word.{colorA, colorB, blueA, blueB, colorOf}
 use Rattle.lanes.specs.declared.Column.{Column}
+use Rattle.lanes.specs.declared.Sums.{Sums}
 use Rattle.lanes.specs.Lanes.{colorLanes, shared}
 
 -- The bytes from word z on.
@@ -20,28 +21,47 @@ lanesA d z = colorLanes (colorOf (colorA (wordAt d z)) (blueA (colorA (wordAt d 
 unfoldable pub lanesB : List ℕ → ℕ → ℕ
 lanesB d z = colorLanes (colorOf (colorB (wordAt d z)) (blueB (colorB (wordAt d z))))
 
--- Rows 0 to 3 of a block, of the words p above it, q its own and s below it, by their shares.
-unfoldable pub columnOf : List ℕ → ℕ → ℕ → ℕ → Column
-columnOf d p q s =
+-- Rows 0 to 3 of a block, of the words at the addresses above it, its own and below it, by their shares.
+unfoldable pub columnOf : List ℕ → (above own below : ℕ) → Column
+columnOf d above own below =
     record {
-      a = tab (λ y. shared 2 y (lanesA d p) (lanesA d q) (lanesA d s)) 4;
-      b = tab (λ y. shared 2 y (lanesB d p) (lanesB d q) (lanesB d s)) 4;
+      a = tab (λ y. shared 2 y (lanesA d above) (lanesA d own) (lanesA d below)) 4;
+      b = tab (λ y. shared 2 y (lanesB d above) (lanesB d own) (lanesB d below)) 4;
     }
+
+-- Row y of three columns.
+abbrev pub sumsAt : (left own right : Column) → ℕ → Sums
+sumsAt left own right y =
+    record {
+      «left_a» = getD (left .a) y 0;
+      «own_a» = getD (own .a) y 0;
+      «right_a» = getD (right .a) y 0;
+      «left_b» = getD (left .b) y 0;
+      «own_b» = getD (own .b) y 0;
+      «right_b» = getD (right .b) y 0;
+    }
+
+-- The sums of colour A at place x of a row of 2h texels, by their shares there, and of colour B.
+abbrev pub acrossA : ℕ → Sums → ℕ → ℕ
+acrossA h s x = shared h x (s .«left_a») (s .«own_a») (s .«right_a»)
+
+abbrev pub acrossB : ℕ → Sums → ℕ → ℕ
+acrossB h s x = shared h x (s .«left_b») (s .«own_b») (s .«right_b»)
 
 -- Eight times such a number fits a machine word with room to bring it to 8 bits.
 abbrev pub most : ℕ
 most = 36028797018963968
 
 -- A column whose eight numbers are so small.
-pub record Fits (k : Column) : Type 0 where
+pub record SmallColumn (k : Column) : Type 0 where
   pub a : (y : ℕ) → y < 4 → getD (k .a) y 0 ≤ most
   pub b : (y : ℕ) → y < 4 → getD (k .b) y 0 ≤ most
 
--- Six numbers of a row that are so small: of colour A and of B, from the previous, the own and the next column.
-pub record RowFits (l c r u v w : ℕ) : Type 0 where
-  pub la : l ≤ most
-  pub ca : c ≤ most
-  pub ra : r ≤ most
-  pub lb : u ≤ most
-  pub cb : v ≤ most
-  pub rb : w ≤ most
+-- A row of three columns whose six numbers are so small.
+pub record SmallSums (s : Sums) : Type 0 where
+  pub left-a : s .«left_a» ≤ most
+  pub own-a : s .«own_a» ≤ most
+  pub right-a : s .«right_a» ≤ most
+  pub left-b : s .«left_b» ≤ most
+  pub own-b : s .«own_b» ≤ most
+  pub right-b : s .«right_b» ≤ most

@@ -1,5 +1,5 @@
+pub mod Block2bpp
+pub mod Block4bpp
+pub mod BlockRow
 pub mod Column
-pub mod Eight
-pub mod Four
 pub mod Lanes
-pub mod Strip

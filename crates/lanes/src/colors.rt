@@ -7,7 +7,7 @@ ghost use lib.Dec.{eqb};
 ghost use lib.ListN.{length, getD};
 ghost use Rattle.word.specs.Word.{colorOf, blueA, blueB};
 ghost use Rattle.lanes.specs.Lanes.{bytes, colorLanes, widened, fitted, mixedLanes, shared, Mask};
-ghost use Rattle.lanes.specs.Column.{lanesA, lanesB, columnOf, most, Fits};
+ghost use Rattle.lanes.specs.Column.{lanesA, lanesB, columnOf, most, SmallColumn};
 
 const BYTES: u64 = 0x00ff00ff00ff00ff;
 
@@ -41,11 +41,11 @@ pub fn mix(a: u64, b: u64, w: u64, keep: u64) -> u32
 }
 
 // By a bit, the one or the other, with no branch.
-pub fn pick(o: u64, x: u64, y: u64) -> u64
-    requires { ⌜ o < 2 ⌝ }
-    ensures { λ r. ⌜ r ≡ cond (eqb o 1) x y ⌝ }
+pub fn pick(bit: u64, set: u64, clear: u64) -> u64
+    requires { ⌜ bit < 2 ⌝ }
+    ensures { λ r. ⌜ r ≡ cond (eqb bit 1) set clear ⌝ }
 {
-    o * x + (1 - o) * y
+    bit * set + (1 - bit) * clear
 }
 
 // Lanes of four bits, each followed by its top bit.
@@ -110,28 +110,42 @@ fn word_b(d: &[u8], z: usize) -> u64
     lane_b(half(d, 8 * z + 6))
 }
 
-// The column of the words p above, q own and s below.
-pub fn summed(d: &[u8], p: usize, q: usize, s: usize) -> Column
-    requires { ⌜ (8 * p + 8 ≤ length (now d)) × (8 * q + 8 ≤ length (now d)) × (8 * s + 8 ≤ length (now d)) ⌝ }
-    ensures { λ k. ⌜ (k ≡ columnOf (now (d .entry)) p q s) × Fits k ⌝ }
+// The column of the words at the addresses above a block, its own and below it.
+pub fn summed(d: &[u8], above: usize, own: usize, below: usize) -> Column
+    requires { ⌜ (8 * above + 8 ≤ length (now d)) × (8 * own + 8 ≤ length (now d)) × (8 * below + 8 ≤ length (now d)) ⌝ }
+    ensures { λ k. ⌜ (k ≡ columnOf (now (d .entry)) above own below) × SmallColumn k ⌝ }
 {
-    let ap = word_a(d, p);
-    let aq = word_a(d, q);
-    let a_s = word_a(d, s);
-    let bp = word_b(d, p);
-    let bq = word_b(d, q);
-    let b_s = word_b(d, s);
+    let above_a = word_a(d, above);
+    let own_a = word_a(d, own);
+    let below_a = word_a(d, below);
+    let above_b = word_b(d, above);
+    let own_b = word_b(d, own);
+    let below_b = word_b(d, below);
     Column {
-        a: [2 * ap + 2 * aq, ap + 3 * aq, 4 * aq, 3 * aq + a_s],
-        b: [2 * bp + 2 * bq, bp + 3 * bq, 4 * bq, 3 * bq + b_s],
+        a: [
+            2 * above_a + 2 * own_a,
+            above_a + 3 * own_a,
+            4 * own_a,
+            3 * own_a + below_a,
+        ],
+        b: [
+            2 * above_b + 2 * own_b,
+            above_b + 3 * own_b,
+            4 * own_b,
+            3 * own_b + below_b,
+        ],
     }
 }
 
 // From the sum of shares at place i of 2h to the one at the next place.
-pub fn step(h: usize, i: usize, x: u64, l: u64, c: u64, r: u64) -> u64
-    requires { ⌜ (h ≤ 4) × (i < 2 * h) × (x ≡ shared h i l c r) ⌝ }
-    requires { ⌜ (l ≤ most) × (c ≤ most) × (r ≤ most) ⌝ }
-    ensures { λ z. ⌜ z ≡ shared h (i + 1) l c r ⌝ }
+pub fn step(h: usize, i: usize, sum: u64, left: u64, own: u64, right: u64) -> u64
+    requires { ⌜ (h ≤ 4) × (i < 2 * h) × (sum ≡ shared h i left own right) ⌝ }
+    requires { ⌜ (left ≤ most) × (own ≤ most) × (right ≤ most) ⌝ }
+    ensures { λ z. ⌜ z ≡ shared h (i + 1) left own right ⌝ }
 {
-    if i < h { x + c - l } else { x + r - c }
+    if i < h {
+        sum + own - left
+    } else {
+        sum + right - own
+    }
 }

@@ -1,79 +1,72 @@
-// One row of blocks of a picture, decoded fast: four channels as lanes of one number, and a window of three columns of words that
-// slides along the row, each parsed once.
+// One row of blocks, decoded fast: four channels as lanes of one number, and a window of three columns of words that slides along the
+// row, each parsed once.
 mod colors;
-mod eights;
 mod filling;
-mod fours;
 mod places;
+mod row_2bpp;
+mod row_4bpp;
 
-pub use eights::decode_block_row_2bpp;
-pub use fours::decode_block_row_4bpp;
+pub use row_2bpp::decode_block_row_2bpp;
+pub use row_4bpp::decode_block_row_4bpp;
 ghost use mathlib.Core.Path.{_≡_};
 ghost use lib.ListN.{length};
-ghost use Rattle.lanes.specs.Strip.{Ready, withBlockRow};
+ghost use Rattle.lanes.specs.BlockRow.{Ready, withBlockRow};
+use grid::Grid;
+use paint::Sheet;
 
-// Rows 0 to 3 of a block, of colour A and of colour B.
+// Three words of a column, the one above a block, its own and the one below, summed for rows 0 to 3 of the block: colour A and colour B.
 pub struct Column {
     pub a: [u64; 4],
     pub b: [u64; 4],
 }
 
-// A row of blocks: the grid, the row, the smaller side, and what the rows above, own and below add to an address.
-pub struct Strip {
-    pub nx: usize,
-    pub ny: usize,
-    pub by: usize,
-    pub m: usize,
-    pub u: usize,
-    pub o: usize,
-    pub e: usize,
+// One row of three columns, the one before a block, its own and the next one: colour A and colour B.
+pub struct Sums {
+    pub left_a: u64,
+    pub own_a: u64,
+    pub right_a: u64,
+    pub left_b: u64,
+    pub own_b: u64,
+    pub right_b: u64,
 }
 
-// Where a block's texels go: the first word, the picture's width, and the columns and rows that lie inside.
-pub struct Spot {
-    pub at: usize,
-    pub width: usize,
-    pub columns: usize,
-    pub rows: usize,
+// The smaller side of the grid, and what the rows of blocks above, own and below add to an address.
+pub struct RowAddresses {
+    pub smaller: usize,
+    pub above: usize,
+    pub own: usize,
+    pub below: usize,
 }
 
 // A word's modulation, and where its mode starts in the two tables.
 pub struct Codes {
-    pub m: u64,
-    pub s: u64,
+    pub modulation: u64,
+    pub start: u64,
 }
 
 // Four rows of eight weights, each weight a byte.
-pub struct Rows {
-    pub w: [u64; 4],
+pub struct Weights {
+    pub rows: [u64; 4],
 }
 
-// The rows over a block's upper and lower edge, its mode, and how its fill counts the weights beside a texel, and above and below it.
-pub struct Own {
-    pub up: u64,
-    pub dn: u64,
-    pub one: u64,
-    pub hx: u64,
-    pub vx: u64,
+// How a block is filled: the rows of weights over its upper and lower edge, its mode, and how often the weights beside a texel count,
+// and those above and below it.
+pub struct FillRule {
+    pub above: u64,
+    pub below: u64,
+    pub mode: u64,
+    pub beside: u64,
+    pub upright: u64,
 }
 
-// Row `by` of blocks of a picture of nx by ny blocks, at either depth, laid into the image.
-pub fn decode_block_row(
-    data: &[u8],
-    width: usize,
-    height: usize,
-    is2bpp: bool,
-    nx: usize,
-    ny: usize,
-    by: usize,
-    image: &mut [u32],
-)
-    requires { ⌜ Ready is2bpp width height nx ny by (length (now «data»)) (length (now image)) ⌝ }
-    ensures { λ _. ⌜ now (image .exit) ≡ withBlockRow is2bpp width height nx ny by (now («data» .entry)) (now (image .entry)) ⌝ }
+// Row `by` of a grid's blocks, at either depth, laid on its sheet.
+pub fn decode_block_row(data: &[u8], g: Grid, by: usize, row: Sheet, image: &mut [u32])
+    requires { ⌜ Ready g by row (length (now «data»)) (length (now image)) ⌝ }
+    ensures { λ _. ⌜ now (image .exit) ≡ withBlockRow g by row (now («data» .entry)) (now (image .entry)) ⌝ }
 {
-    if is2bpp {
-        decode_block_row_2bpp(data, width, height, nx, ny, by, image);
+    if g.is2bpp {
+        decode_block_row_2bpp(data, g, by, row, image);
     } else {
-        decode_block_row_4bpp(data, width, height, nx, ny, by, image);
+        decode_block_row_4bpp(data, g, by, row, image);
     }
 }

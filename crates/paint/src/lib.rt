@@ -55,6 +55,12 @@ pub fn copy_block_buffer(buffer: &[u32; 32], bw: usize, part: Sheet, image: &mut
     ensures { λ _. ⌜ now (image .exit) ≡ onSheet part (λ x y. getD (now (buffer .entry)) (y * bw + x) 0) (now (image .entry)) ⌝ }
 {
     for j in 0..part.height {
-        copy_words(buffer, j * bw, image, part.start + j * part.stride, part.width);
+        copy_words(
+            buffer,
+            j * bw,
+            image,
+            part.start + j * part.stride,
+            part.width,
+        );
     }
 }

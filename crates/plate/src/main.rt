@@ -5,7 +5,7 @@ ghost use Rattle.plate.specs.Input.{within};
 
 // What reading gives: how many bytes, or that a read failed.
 enum Input {
-    Bytes(usize),
+    Got(usize),
     Failed,
 }
 
@@ -17,7 +17,7 @@ fn read_some(buf: &mut [u8]) -> Input
     if got < 0 {
         return Input::Failed;
     }
-    Input::Bytes(io::count(got, buf))
+    Input::Got(io::count(got, buf))
 }
 
 // One read into buf from place `at` on.
@@ -34,21 +34,21 @@ fn read_input(buf: &mut [u8]) -> Input
 {
     let mut done = 0;
     while done < buf.len() {
-        let Input::Bytes(n) = read_at(buf, done) else {
+        let Input::Got(n) = read_at(buf, done) else {
             return Input::Failed;
         };
         if n == 0 {
-            return Input::Bytes(done);
+            return Input::Got(done);
         }
         done += n;
     }
-    Input::Bytes(done)
+    Input::Got(done)
 }
 
 // The header, the metadata and the data that can matter have 52 + 4,096 + 32,768 bytes; later ones are left unread.
 fn main() {
     let mut input = [0u8; 36916];
-    let Input::Bytes(n) = read_input(&mut input) else {
+    let Input::Got(n) = read_input(&mut input) else {
         io::write_all(2, b"plate: standard input could not be read\n");
         return;
     };

@@ -11,7 +11,8 @@ use Rattle.pvrtc.specs.declared.Call.the-variants as call
 use Rattle.pvrtc.specs.declared.Decoded.the-variants.{Done}
 use Rattle.pvrtc.specs.declared.Picture.{Picture}
 use Rattle.pvrtc.specs.declared.Texel.{Texel}
-use Rattle.pvrtc.specs.Calls.{refusal, pictureTexel, TexelRead, RowDecoded, BlockDecoded}
+use Rattle.pvrtc.specs.Calls.{refusal, TexelRead, RowDecoded, BlockDecoded}
+use Rattle.pvrtc.specs.Picture.{pictureTexel}
 use Rattle.pvrtc.specs.Refusals.{texelValue}
 use Rattle.pvrtc.proofs.Accepted.{accepted, texel-of-row, texel-of-block, row-roomy, block-roomy}
 
@@ -48,11 +49,13 @@ module _ (p : Picture) (d : List ℕ) (x y : ℕ) (hx : x < p .width) {old new :
       (omega (arith, mul-le-mul-right (p .width) below, block-roomy p (length old) (ok .roomy)))
 
   pub row-agrees : {r : Texel} → RowDecoded p d y old new Done → TexelRead p d x y r → getD new x 0 ≡ texelValue r
-  row-agrees w t = row-is w ∙ sym (value-is p d x y (texel-of-row p x y (length old) (length d) (accepted p (call.Row y (length old)) (length d) (sym (w .number))) hx) t)
+  row-agrees w t =
+      row-is w ∙ sym (value-is p d x y (texel-of-row p x y (length old) (length d) (accepted p (call.Row y (length old)) (length d) (sym (w .number))) hx) t)
 
   pub block-agrees : {r : Texel} → y < p .height → BlockDecoded p d old new Done → TexelRead p d x y r → getD new (y * p .width + x) 0 ≡ texelValue r
   block-agrees hy w t =
-      block-is hy w ∙ sym (value-is p d x y (texel-of-block p x y (length old) (length d) (accepted p (call.Block (length old)) (length d) (sym (w .number))) hx hy) t)
+      block-is hy w ∙ sym (value-is p d x y
+      (texel-of-block p x y (length old) (length d) (accepted p (call.Block (length old)) (length d) (sym (w .number))) hx hy) t)
 
 -- and a row is the picture's row
 pub row-of-block : (p : Picture) (d : List ℕ) (x y : ℕ) {row row' image image' : List ℕ} → x < p .width → y < p .height

@@ -1,7 +1,7 @@
 pub mod Accepted
 pub mod Agree
-pub mod InBlock
-pub mod Lanes
+pub mod Groups
+pub mod InPicture
 pub mod InRow
 pub mod Past
 pub mod Unique

@@ -14,7 +14,8 @@ use Rattle.pvrtc.specs.declared.Refusal.the-variants.{ZeroSide, LargeSid
 use Rattle.pvrtc.specs.declared.Texel.{Texel}
 use Rattle.pvrtc.specs.declared.Texel.the-variants as texel
 use Rattle.pvrtc.specs.declared.Call.the-variants as call
-use Rattle.pvrtc.specs.Calls.{refusal, pictureTexel, TexelRead, Written}
+use Rattle.pvrtc.specs.Calls.{refusal, TexelRead, Written}
+use Rattle.pvrtc.specs.Picture.{pictureTexel}
 use Rattle.pvrtc.specs.Refusals.{numberOf, decodedNumber, texelNumber, texelValue}
 
 -- a refusal's number is 1 to 6

@@ -1,31 +1,24 @@
 -- What each call promises. Assumes nothing: these are definitions.
 use mathlib.Core.Path.{_≡_}
-use mathlib.Core.Bool.{Bool, cond}
+use mathlib.Core.Bool.{cond}
 use mathlib.Core.List.{List}
 use Prim.Native.Nat.{ℕ}
 use lib.Dec.{eqb}
 use lib.ListN.{length}
 use Rattle.facts.specs.Checks.{firstOf}
 use Rattle.paint.specs.Paint.{painted}
-use Rattle.texel.specs.Texel.{texelWord}
+use Rattle.paint.specs.Sheet.{onSheet}
 use Rattle.pvrtc.specs.declared.Call.{Call}
 use Rattle.pvrtc.specs.declared.Call.the-variants as call
 use Rattle.pvrtc.specs.declared.Decoded.{Decoded}
 use Rattle.pvrtc.specs.declared.Picture.{Picture}
 use Rattle.pvrtc.specs.declared.Texel.{Texel}
-use Rattle.pvrtc.specs.Refusals.{across, down, checks, decodedNumber, texelNumber, texelValue}
-
--- The description of a picture by its three numbers.
-abbrev pub picture : ℕ → ℕ → Bool → Picture
-picture width height two = record { width = width; height = height; is2bpp = two }
+use Rattle.pvrtc.specs.Picture.{sheetOf, pictureTexel}
+use Rattle.pvrtc.specs.Refusals.{checks, decodedNumber, texelNumber, texelValue}
 
 -- The number that a call on the data d says.
 abbrev pub refusal : Picture → Call → List ℕ → ℕ
 refusal p c d = firstOf (checks p c (length d))
-
--- Texel (x, y) of a picture, as a word.
-abbrev pub pictureTexel : Picture → List ℕ → ℕ → ℕ → ℕ
-pictureTexel p d x y = texelWord (p .is2bpp) (across p) (down p) d x y
 
 -- The texel call: its number, and the texel where that is 0.
 pub record TexelRead (p : Picture) (d : List ℕ) (x y : ℕ) (r : Texel) : Type 0 where
@@ -45,4 +38,4 @@ RowDecoded p d y old new r =
 -- The block call: texel (x, y) at word y × width + x, later words as they were.
 abbrev pub BlockDecoded : Picture → List ℕ → (old new : List ℕ) → Decoded → Type 0
 BlockDecoded p d old new r =
-    Written (refusal p (call.Block (length old)) d) (painted 0 (p .width) (p .width) (p .height) (pictureTexel p d) old) old new r
+    Written (refusal p (call.Block (length old)) d) (onSheet (sheetOf p) (pictureTexel p d) old) old new r

@@ -3,10 +3,13 @@ use crate::Call;
 use crate::Decoded;
 use crate::Picture;
 use crate::Refusal;
+use crate::layout::grid_of;
 ghost use mathlib.Core.Path.{_≡_};
 ghost use mathlib.Core.Bool.{false};
-ghost use Rattle.facts.specs.Checks.{firstOf};
-ghost use Rattle.pvrtc.specs.Refusals.{need, zeroSide, largeSide, shortImage, notPower, outside, checks, numberOf, decodedNumber};
+ghost use mathlib.Core.List.{[], _∷_};
+ghost use Rattle.facts.specs.Checks.{check};
+ghost use Rattle.pvrtc.specs.Refusals.{zeroSide, largeSide, shortData, shortImage, notPower, outside, numberOf, Says};
+ghost use Rattle.pvrtc.specs.Refusals.{sizeChecks, dataChecks, roomChecks, gridChecks, placeChecks, checks};
 
 // Document 01's number of a refusal.
 pub fn refusal_number(f: Refusal) -> u64
@@ -22,7 +25,8 @@ pub fn refusal_number(f: Refusal) -> u64
     }
 }
 
-fn has_zero_side(p: Picture) -> bool
+// Whether a side is 0.
+pub fn has_zero_side(p: Picture) -> bool
     ensures { λ r. ⌜ r ≡ zeroSide p ⌝ }
 {
     p.width == 0 || p.height == 0
@@ -34,12 +38,11 @@ fn has_large_side(p: Picture) -> bool
     p.width > 65536 || p.height > 65536
 }
 
-// The bytes that a picture needs.
-fn need_of(p: Picture) -> usize
+fn has_short_data(p: Picture, len: usize) -> bool
     requires { ⌜ largeSide p ≡ false ⌝ }
-    ensures { λ r. ⌜ r ≡ need p ⌝ }
+    ensures { λ r. ⌜ r ≡ shortData p len ⌝ }
 {
-    8 * (grid::num_blocks_x(p.width, p.is2bpp) * grid::num_blocks_y(p.height))
+    len < grid::need_of(grid_of(p))
 }
 
 fn has_short_image(p: Picture, call: Call) -> bool
@@ -56,9 +59,8 @@ fn has_short_image(p: Picture, call: Call) -> bool
 fn has_no_power(p: Picture) -> bool
     ensures { λ r. ⌜ r ≡ notPower p ⌝ }
 {
-    let nx = grid::num_blocks_x(p.width, p.is2bpp);
-    let ny = grid::num_blocks_y(p.height);
-    !grid::is_power_of_two(nx) || !grid::is_power_of_two(ny)
+    let g = grid_of(p);
+    !grid::is_power_of_two(g.across) || !grid::is_power_of_two(g.down)
 }
 
 fn is_outside(p: Picture, call: Call) -> bool
@@ -71,27 +73,71 @@ fn is_outside(p: Picture, call: Call) -> bool
     }
 }
 
-// The first refusal of a call on `len` bytes whose condition holds.
-pub fn check(p: Picture, call: Call, len: usize) -> Decoded
-    ensures { λ r. ⌜ decodedNumber r ≡ firstOf (checks p call len) ⌝ }
+// The refusal f where its condition holds.
+fn refuse_if(holds: bool, f: Refusal) -> Decoded
+    ensures { λ r. ⌜ Says r (check holds (numberOf f) ∷ []) ⌝ }
 {
-    if has_zero_side(p) {
-        return Decoded::Refused(Refusal::ZeroSide);
-    }
-    if has_large_side(p) {
-        return Decoded::Refused(Refusal::LargeSide);
-    }
-    if len < need_of(p) {
-        return Decoded::Refused(Refusal::ShortData);
-    }
-    if has_short_image(p, call) {
-        return Decoded::Refused(Refusal::ShortImage);
-    }
-    if has_no_power(p) {
-        return Decoded::Refused(Refusal::NotPowerOfTwo);
-    }
-    if is_outside(p, call) {
-        return Decoded::Refused(Refusal::Outside);
+    if holds {
+        return Decoded::Refused(f);
     }
     Decoded::Done
+}
+
+fn check_sizes(p: Picture) -> Decoded
+    ensures { λ r. ⌜ Says r (sizeChecks p) ⌝ }
+{
+    let zero = refuse_if(has_zero_side(p), Refusal::ZeroSide);
+    let Decoded::Done = zero else {
+        return zero;
+    };
+    refuse_if(has_large_side(p), Refusal::LargeSide)
+}
+
+fn check_data(p: Picture, len: usize) -> Decoded
+    requires { ⌜ largeSide p ≡ false ⌝ }
+    ensures { λ r. ⌜ Says r (dataChecks p len) ⌝ }
+{
+    refuse_if(has_short_data(p, len), Refusal::ShortData)
+}
+
+fn check_room(p: Picture, call: Call) -> Decoded
+    requires { ⌜ largeSide p ≡ false ⌝ }
+    ensures { λ r. ⌜ Says r (roomChecks p call) ⌝ }
+{
+    refuse_if(has_short_image(p, call), Refusal::ShortImage)
+}
+
+fn check_grid(p: Picture) -> Decoded
+    ensures { λ r. ⌜ Says r (gridChecks p) ⌝ }
+{
+    refuse_if(has_no_power(p), Refusal::NotPowerOfTwo)
+}
+
+fn check_place(p: Picture, call: Call) -> Decoded
+    ensures { λ r. ⌜ Says r (placeChecks p call) ⌝ }
+{
+    refuse_if(is_outside(p, call), Refusal::Outside)
+}
+
+// The first refusal of a call on `len` bytes whose condition holds, group by group.
+pub fn check(p: Picture, call: Call, len: usize) -> Decoded
+    ensures { λ r. ⌜ Says r (checks p call len) ⌝ }
+{
+    let sizes = check_sizes(p);
+    let Decoded::Done = sizes else {
+        return sizes;
+    };
+    let data = check_data(p, len);
+    let Decoded::Done = data else {
+        return data;
+    };
+    let room = check_room(p, call);
+    let Decoded::Done = room else {
+        return room;
+    };
+    let grid = check_grid(p);
+    let Decoded::Done = grid else {
+        return grid;
+    };
+    check_place(p, call)
 }

@@ -1,16 +1,22 @@
 // The calls: a texel, a row, all blocks of a picture.
-mod block;
+mod block_call;
 mod check;
-mod row;
+mod layout;
+mod plain;
+mod row_call;
+mod texel_call;
 
-pub use block::decode_pvrtc;
-pub use block::decode_pvrtc_2bpp;
-pub use block::decode_pvrtc_4bpp;
-pub use block::decode_pvrtc_plain;
+pub use block_call::decode_picture;
+pub use block_call::decode_pvrtc;
+pub use block_call::decode_pvrtc_2bpp;
+pub use block_call::decode_pvrtc_4bpp;
+pub use check::has_zero_side;
 pub use check::refusal_number;
-pub use row::decode_row;
-ghost use Rattle.pvrtc.specs.Calls.{picture, TexelRead};
-use check::check;
+pub use layout::grid_of;
+pub use layout::picture_of;
+pub use plain::decode_pvrtc_plain;
+pub use row_call::decode_row;
+pub use texel_call::decode_texel;
 
 // Why a call refuses, in document 01's words.
 pub enum Refusal {
@@ -34,7 +40,7 @@ pub enum Texel {
     Refused(Refusal),
 }
 
-// The description of a picture.
+// The description of a picture. `picture_of` makes one, and `layout` alone takes one apart.
 pub struct Picture {
     pub width: usize,
     pub height: usize,
@@ -46,31 +52,4 @@ pub enum Call {
     Texel { x: usize, y: usize },
     Row { y: usize, room: usize },
     Block { room: usize },
-}
-
-// Texel (x, y) of a picture.
-pub fn decode_texel(
-    data: &[u8],
-    width: usize,
-    height: usize,
-    is2bpp: bool,
-    x: usize,
-    y: usize,
-) -> Texel
-    ensures { λ r. ⌜ TexelRead (picture width height is2bpp) (now («data» .entry)) x y r ⌝ }
-{
-    let p = Picture {
-        width: width,
-        height: height,
-        is2bpp: is2bpp,
-    };
-    let checked = check(p, Call::Texel { x: x, y: y }, data.len());
-    match checked {
-        Decoded::Done => {
-            let nx = grid::num_blocks_x(width, is2bpp);
-            let ny = grid::num_blocks_y(height);
-            Texel::Word(texel::texel_at(data, nx, ny, is2bpp, x, y))
-        }
-        Decoded::Refused(f) => Texel::Refused(f),
-    }
 }

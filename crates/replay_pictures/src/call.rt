@@ -1,14 +1,14 @@
 // One call, and its line.
 use crate::draw;
-use crate::least;
 use crate::sum;
 use pvrtc::Decoded;
 use pvrtc::Picture;
 
-// The call: it is told the depth, or has it in its name, or asks for row y.
+// The call: it is told the depth, or has it in its name, or is the plain form, or asks for row y.
 pub enum Way {
     Told,
     Named,
+    Plain,
     Row(usize),
 }
 
@@ -22,8 +22,8 @@ pub fn print_call(
     state: u64,
 ) -> u64 {
     let mut image = [0u32; 8256];
-    let n = least(bytes, data.len());
-    let m = least(words, 8256);
+    let n = facts::least(bytes, data.len());
+    let m = facts::least(words, 8256);
     print_lent(way, p, &data[..n], &mut image[..m], state)
 }
 
@@ -45,7 +45,8 @@ fn decode(way: Way, p: Picture, data: &[u8], words: &mut [u32]) -> Decoded {
     match way {
         Way::Told => pvrtc::decode_pvrtc(data, p.width, p.height, words, p.is2bpp),
         Way::Named => decode_named(p, data, words),
-        Way::Row(y) => pvrtc::decode_row(data, p.width, p.height, p.is2bpp, y, words),
+        Way::Plain => pvrtc::decode_pvrtc_plain(data, p, words),
+        Way::Row(y) => pvrtc::decode_row(data, p, y, words),
     }
 }
 
@@ -74,6 +75,9 @@ fn print_way(way: Way) {
         }
         Way::Named => {
             io::write_all(1, b"named");
+        }
+        Way::Plain => {
+            io::write_all(1, b"plain");
         }
         Way::Row(y) => {
             io::write_all(1, b"row");

@@ -1,11 +1,10 @@
 // Bytes and words drawn by the generator. The answer is its state afterwards.
-use crate::least;
 
 // Fills the first so many bytes, two a step.
 pub fn fill_bytes(data: &mut [u8], bytes: usize, state: u64) -> u64 {
     let mut reached = state;
     let mut i = 0;
-    while i < least(bytes, data.len()) {
+    while i < facts::least(bytes, data.len()) {
         reached = step_before(reached, i);
         data[i] = byte_of(reached, i);
         i += 1;

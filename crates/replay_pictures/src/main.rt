@@ -10,9 +10,6 @@ mod sizes;
 mod sum;
 mod tall;
 
-ghost use mathlib.Core.Path.{_≡_};
-ghost use Prim.Native.Nat.{min};
-
 // The pictures, then the rows, for which the generator runs on; then the calls at each depth.
 fn main() {
     rows::print_rows(shapes::print_shapes(1));
@@ -27,11 +24,4 @@ fn print_calls(is2bpp: bool) {
     picture_calls::print_calls(&data, is2bpp);
     row_calls::print_calls(&data, is2bpp);
     tall::print_calls(&data, is2bpp);
-}
-
-// The smaller of the two.
-fn least(a: usize, b: usize) -> usize
-    ensures { λ r. ⌜ r ≡ min a b ⌝ }
-{
-    if a < b { a } else { b }
 }

@@ -101,7 +101,7 @@ fn print_one_way(data: &[u8], is2bpp: bool) {
     }
 }
 
-// One call on so many bytes and words.
+// One call on so many bytes and words, by the fast form and by the plain one.
 pub fn print_call(
     data: &[u8],
     bytes: usize,
@@ -110,6 +110,7 @@ pub fn print_call(
     height: usize,
     is2bpp: bool,
 ) {
-    let p = sizes::picture(width, height, is2bpp);
+    let p = pvrtc::picture_of(width, height, is2bpp);
     call::print_call(Way::Told, p, data, bytes, words, 2);
+    call::print_call(Way::Plain, p, data, bytes, words, 2);
 }

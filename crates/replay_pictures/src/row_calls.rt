@@ -89,6 +89,6 @@ pub fn print_call(
     is2bpp: bool,
     y: usize,
 ) {
-    let p = sizes::picture(width, height, is2bpp);
+    let p = pvrtc::picture_of(width, height, is2bpp);
     call::print_call(Way::Row(y), p, data, bytes, words, 2);
 }

@@ -36,7 +36,7 @@ fn print_2bpp(state: u64) -> u64 {
 
 // One picture, after its data is drawn.
 fn print_picture(width: u16, height: u16, is2bpp: bool, state: u64) -> u64 {
-    let p = sizes::picture(width as usize, height as usize, is2bpp);
+    let p = pvrtc::picture_of(width as usize, height as usize, is2bpp);
     let bytes = sizes::bytes_of(width, height, is2bpp);
     let mut data = [0u8; 256];
     let drawn = draw::fill_bytes(&mut data, bytes, state);

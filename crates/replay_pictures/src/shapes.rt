@@ -79,7 +79,7 @@ fn print_large_2bpp(state: u64) -> u64 {
     print_picture(128, 64, true, reached)
 }
 
-// The same picture by the call that is told the depth and by that with the depth in its name.
+// The same picture by the calls that are told the depth and by that with the depth in its name.
 fn print_both_ways(state: u64) -> u64 {
     let mut reached = state;
     reached = print_both(4, 4, false, reached);
@@ -92,20 +92,21 @@ fn print_both_ways(state: u64) -> u64 {
     print_both(31, 15, true, reached)
 }
 
-// One picture.
+// One picture by the fast form, and by the plain one.
 fn print_picture(width: u16, height: u16, is2bpp: bool, state: u64) -> u64 {
-    print_drawn(Way::Told, width, height, is2bpp, state)
+    print_drawn(Way::Told, width, height, is2bpp, state);
+    print_drawn(Way::Plain, width, height, is2bpp, state)
 }
 
-// One picture by both calls.
+// One picture by all of them.
 fn print_both(width: u16, height: u16, is2bpp: bool, state: u64) -> u64 {
-    print_drawn(Way::Told, width, height, is2bpp, state);
+    print_picture(width, height, is2bpp, state);
     print_drawn(Way::Named, width, height, is2bpp, state)
 }
 
 // One picture by one call, after its data is drawn.
 fn print_drawn(way: Way, width: u16, height: u16, is2bpp: bool, state: u64) -> u64 {
-    let p = sizes::picture(width as usize, height as usize, is2bpp);
+    let p = pvrtc::picture_of(width as usize, height as usize, is2bpp);
     let bytes = sizes::bytes_of(width, height, is2bpp);
     let words = sizes::words_of(width, height);
     let mut data = [0u8; 2048];

@@ -1,15 +1,5 @@
-// What a picture is and needs.
-use pvrtc::Picture;
+// What a picture needs.
 ghost use Prim.Native.Nat.{_≤_};
-
-// The description of a picture.
-pub fn picture(width: usize, height: usize, is2bpp: bool) -> Picture {
-    Picture {
-        width: width,
-        height: height,
-        is2bpp: is2bpp,
-    }
-}
 
 // The bytes: eight for each block.
 pub fn bytes_of(width: u16, height: u16, is2bpp: bool) -> usize {

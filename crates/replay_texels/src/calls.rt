@@ -1,7 +1,6 @@
 // Calls: what each refusal is given for, what it goes before, and what is just not refused.
 use crate::draw;
 use crate::end_line;
-use crate::least;
 use crate::print_number;
 use crate::print_size;
 use crate::print_texel;
@@ -107,14 +106,10 @@ fn print_outside(is2bpp: bool) {
 
 // One call on so many drawn bytes, of at most 96, and its answer.
 fn print_call(bytes: usize, width: usize, height: usize, is2bpp: bool, x: usize, y: usize) {
-    let p = Picture {
-        width: width,
-        height: height,
-        is2bpp: is2bpp,
-    };
+    let p = pvrtc::picture_of(width, height, is2bpp);
     let mut data = [0u8; 96];
     draw::fill(&mut data, 0, 1);
-    let n = least(bytes, 96);
+    let n = facts::least(bytes, 96);
     print_question(p, n, x, y);
     print_texel(&data[..n], p, x, y);
     end_line();

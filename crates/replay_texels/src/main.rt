@@ -7,8 +7,6 @@ mod places;
 
 use pvrtc::Picture;
 use pvrtc::Texel;
-ghost use mathlib.Core.Path.{_≡_};
-ghost use Prim.Native.Nat.{min};
 
 // The pictures, then the calls.
 fn main() {
@@ -19,7 +17,7 @@ fn main() {
 
 // The answer of one texel call, with the space before it.
 fn print_texel(data: &[u8], p: Picture, x: usize, y: usize) {
-    let answer = pvrtc::decode_texel(data, p.width, p.height, p.is2bpp, x, y);
+    let answer = pvrtc::decode_texel(data, p, x, y);
     match answer {
         Texel::Word(word) => print_word(word),
         Texel::Refused(f) => {
@@ -56,11 +54,4 @@ fn print_size(p: Picture) {
 // The end of a line.
 fn end_line() {
     io::write_all(1, b"\n");
-}
-
-// The smaller of the two.
-fn least(a: usize, b: usize) -> usize
-    ensures { λ r. ⌜ r ≡ min a b ⌝ }
-{
-    if a < b { a } else { b }
 }

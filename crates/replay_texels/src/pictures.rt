@@ -1,7 +1,6 @@
 // Pictures of many sizes at both depths, with words of each kind.
 use crate::draw;
 use crate::end_line;
-use crate::least;
 use crate::places;
 use crate::print_size;
 use pvrtc::Picture;
@@ -60,14 +59,10 @@ fn print_kinds(width: u16, height: u16, is2bpp: bool, state: u64) -> u64 {
 
 // One picture: its description, then its texels at the chosen places.
 fn print_picture(width: u16, height: u16, is2bpp: bool, kind: u64, state: u64) -> u64 {
-    let p = Picture {
-        width: width as usize,
-        height: height as usize,
-        is2bpp: is2bpp,
-    };
+    let p = pvrtc::picture_of(width as usize, height as usize, is2bpp);
     print_title(p, kind);
     let mut data = [0u8; 2048];
-    let n = least(bytes_of(width, height, is2bpp), 2048);
+    let n = facts::least(bytes_of(width, height, is2bpp), 2048);
     print_drawn(&mut data[..n], p, kind, state)
 }
 

@@ -1,6 +1,5 @@
 // The chosen places of a picture: the corners, the middle of each margin, the centre, and the rows of the block that holds the centre.
 use crate::end_line;
-use crate::least;
 use crate::print_texel;
 use pvrtc::Picture;
 
@@ -46,7 +45,7 @@ fn print_centre(data: &[u8], p: Picture) {
 // The rows of the block that holds the centre, as far as they lie in the picture.
 fn print_block(data: &[u8], p: Picture) {
     let top = p.height / 8 * 4;
-    let end = least(top + 4, p.height);
+    let end = facts::least(top + 4, p.height);
     for y in top..end {
         print_row(data, p, y);
     }
@@ -57,10 +56,10 @@ fn print_row(data: &[u8], p: Picture, y: usize) {
     io::write_all(1, b"block");
     if p.is2bpp {
         let left = p.width / 16 * 8;
-        print_run(data, p, left, least(left + 8, p.width), y);
+        print_run(data, p, left, facts::least(left + 8, p.width), y);
     } else {
         let left = p.width / 8 * 4;
-        print_run(data, p, left, least(left + 4, p.width), y);
+        print_run(data, p, left, facts::least(left + 4, p.width), y);
     }
     end_line();
 }

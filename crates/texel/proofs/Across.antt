@@ -73,13 +73,15 @@ pub widened-low : (c : PVRTCTexelColor) → Small c → Low 1 (widened c)
 widened-low c s = record { r = omega (arith, s .r); g = omega (arith, s .g); b = omega (arith, s .b); a = omega (arith, s .a) }
 
 -- so a word's colour has room to spare
-pub color-low : (nine : List PVRTCTexelInfo) (second : Bool) (k : ℕ) {c : PVRTCTexelColorInt} → SmallColors nine → k < 9 → c ≡ widened (side second (getD nine k blank)) → Low 4 c
+pub color-low : (nine : List PVRTCTexelInfo) (second : Bool) (k : ℕ) {c : PVRTCTexelColorInt} → SmallColors nine → k < 9
+    → c ≡ widened (side second (getD nine k blank)) → Low 4 c
 color-low nine second k small l e =
     let s = small second k l in
     rw e (record { r = omega (arith, s .r); g = omega (arith, s .g); b = omega (arith, s .b); a = omega (arith, s .a) })
 
 -- three small colours summed down
-pub column-low : (nine : List PVRTCTexelInfo) (second : Bool) (i py : ℕ) → SmallColors nine → i < 3 → py < 4 → Low 4 (columnOf (nineOf nine) second i (shares 2 py))
+pub column-low : (nine : List PVRTCTexelInfo) (second : Bool) (i py : ℕ) → SmallColors nine → i < 3 → py < 4
+    → Low 4 (columnOf (nineOf nine) second i (shares 2 py))
 unfolding columnOf
 column-low nine second i py small li ly =
     weighed-low 2 py 1 (wide 0) (wide 1) (wide 2) ly (low 0 (omega arith)) (low 1 (omega arith)) (low 2 (omega arith))
@@ -109,7 +111,8 @@ window-low nine py small l = record { a = columns false; b = columns true }
 
 -- down first, and then across
 pub down-across : (h px py : ℕ) (w : ℕ → ℕ → ℕ)
-    → three (shares h px) (three (shares 2 py) (w 0 0) (w 0 1) (w 0 2)) (three (shares 2 py) (w 1 0) (w 1 1) (w 1 2)) (three (shares 2 py) (w 2 0) (w 2 1) (w 2 2))
+    → three (shares h px) (three (shares 2 py) (w 0 0) (w 0 1) (w 0 2)) (three (shares 2 py) (w 1 0) (w 1 1) (w 1 2))
+    (three (shares 2 py) (w 2 0) (w 2 1) (w 2 2))
     ≡ sum (λ k. w (k % 3) (k / 3) * factor h px py k) 9
 unfolding sum
 down-across h px py w =
@@ -145,7 +148,8 @@ pub low-across : (two : Bool) (px : ℕ) (columns : Columns) {row : List ℕ} {s
     → row ≡ shares (half two) px → s ≡ acrossOf columns row → Low (8 * half two) s
 low-across two px columns l low er es =
     rw (es, er)
-    (low-more (2 * half two * 4) (8 * half two) _ (omega arith) (weighed-low (half two) px 4 (columns .previous) (columns .own) (columns .next) l (low .previous) (low .own) (low .next)))
+    (low-more (2 * half two * 4) (8 * half two) _ (omega arith)
+    (weighed-low (half two) px 4 (columns .previous) (columns .own) (columns .next) l (low .previous) (low .own) (low .next)))
   where
     low-more : (t u : ℕ) (s : PVRTCTexelColorInt) → t ≤ u → Low t s → Low u s
     low-more t u s h l = record { r = omega (arith, l .r); g = omega (arith, l .g); b = omega (arith, l .b); a = omega (arith, l .a) }
@@ -192,7 +196,8 @@ module _ (two : Bool) (nine : List PVRTCTexelInfo) where
     pub by-window : texelBy (half two) (weightsOf nine) (nineOf nine 1 1) (windowOf (nineOf nine) (shares 2 py)) px py ≡ texelIn (half two) (nineOf nine) px py
     unfolding texelBy texelIn mixed sumsTo nineSum
     by-window =
-        blend-same (half two) (punched (half two) (nineOf nine 1 1) px py) (across-is (half two) px py (nineOf nine) false) (across-is (half two) px py (nineOf nine) true)
+        blend-same (half two) (punched (half two) (nineOf nine 1 1) px py) (across-is (half two) px py (nineOf nine) false)
+        (across-is (half two) px py (nineOf nine) true)
         (filled-same (ruleAt (nineOf nine 1 1) px py))
 
 pub weights-low : (two : Bool) (nine : List PVRTCTexelInfo) → Read two nine → LowWeights two (weightsOf nine)
@@ -200,7 +205,8 @@ weights-low two nine read =
     record { low = λ k i l m. rw (weights-at nine k l) (read .low k i l m) }
 
 -- lent words with the texels of a block's row, from its window
-pub with-texels : (two : Bool) (nine : List PVRTCTexelInfo) (px py count : ℕ) (old : List ℕ) {weights : List (List ℕ)} {row new : List ℕ} {window : Window} {own : PVRTCTexelInfo}
+pub with-texels : (two : Bool) (nine : List PVRTCTexelInfo) (px py count : ℕ) (old : List ℕ) {weights : List (List ℕ)} {row new : List ℕ}
+    {window : Window} {own : PVRTCTexelInfo}
     → px + count ≤ blockWidth two → py < 4 → weights ≡ weightsOf nine → row ≡ shares 2 py → window ≡ windowOf (nineOf nine) row → own ≡ nineOf nine 1 1
     → new ≡ tab (λ i. packed (texelBy (half two) weights own window (px + i) py)) count ++ drop count old → new ≡ withTexels two nine px py count old
 unfolding withTexels
@@ -208,16 +214,13 @@ with-texels two nine px py count old lx ly ew er ei eo e =
     e
     ∙ rw (ew, ei, er, eo)
     (ap (λ (l : List ℕ). l ++ drop count old)
-    (tab-same (λ i. packed (texelBy (half two) (weightsOf nine) (nineOf nine 1 1) (windowOf (nineOf nine) (shares 2 py)) (px + i) py)) (λ i. packed (texelIn (half two) (nineOf nine) (px + i) py)) count
+    (tab-same (λ i. packed (texelBy (half two) (weightsOf nine) (nineOf nine 1 1) (windowOf (nineOf nine) (shares 2 py)) (px + i) py))
+    (λ i. packed (texelIn (half two) (nineOf nine) (px + i) py)) count
     (λ i l. ap packed (by-window two nine (px + i) py (omega arith) ly))))
 
 -- the first of them
-pub first-texel : (two : Bool) (nine : List PVRTCTexelInfo) (px py : ℕ) (old : List ℕ) {new : List ℕ} → new ≡ withTexels two nine px py 1 old → getD new 0 0 ≡ packed (texelIn (half two) (nineOf nine) px py)
+pub first-texel : (two : Bool) (nine : List PVRTCTexelInfo) (px py : ℕ) (old : List ℕ) {new : List ℕ} → new ≡ withTexels two nine px py 1 old
+    → getD new 0 0 ≡ packed (texelIn (half two) (nineOf nine) px py)
 unfolding withTexels
 first-texel two nine px py old e =
     ap (λ (l : List ℕ). getD l 0 0) e ∙ tab-front (λ i. packed (texelIn (half two) (nineOf nine) (px + i) py)) 1 0 (drop 1 old) 0 (omega arith) ∙ rw (add-zero px)
-
--- lent words keep their length
-pub same-size : {f : ℕ → ℕ} {old new : List ℕ} {n : ℕ} → Filled f old n new → n ≤ length old → length new ≡ length old
-same-size {f} {old} {n = n} h l =
-    ap length (h .is) ∙ length-append (tab f n) (drop n old) ∙ omega (arith, length-tab f n, length-drop n old)

@@ -92,7 +92,7 @@ fn print_shapes(draw: &mut Draw) {
     }
 }
 
-/// The same picture by the call that is told the depth and by that with the depth in its name.
+/// The same picture by the calls that are told the depth and by that with the depth in its name.
 fn print_both_ways(draw: &mut Draw) {
     let shapes = [
         (4, 4, false),
@@ -333,11 +333,19 @@ fn lent(words: usize) -> Vec<u32> {
     Draw::from_state(2).words(words)
 }
 
-/// One call, its number, and the sum over the lent words afterwards.
-fn print_line(way: Way, picture: Picture, data: &[u8], mut words: Vec<u32>) {
+/// One call; a picture by the fast form, and again by the plain one, which must answer the same.
+fn print_line(way: Way, picture: Picture, data: &[u8], words: Vec<u32>) {
+    print_call(way, picture, data, words.clone(), "picture");
+    if let Way::Told = way {
+        print_call(way, picture, data, words, "plain");
+    }
+}
+
+/// One call, its number, and the sum over the lent words afterwards. A picture's line begins with `form`.
+fn print_call(way: Way, picture: Picture, data: &[u8], mut words: Vec<u32>, form: &str) {
     let (label, number) = match way {
         Way::Told => (
-            String::from("picture"),
+            String::from(form),
             decode(picture, data, &mut words, false),
         ),
         Way::Named => (

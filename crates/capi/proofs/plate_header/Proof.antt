@@ -22,18 +22,21 @@ plate-field-requires c κs = search needs
 returns : tie.Need-returns
 returns c =
     let a = c .before .before .before .before .before .before .before .args in
-    field-of-refused (now (a .file)) (a .field) (c .before .before .before .before .before .read-header .ensures) (c .before .before .before .header .given .1) (c .before .if1 .taken) (c .header-refusal-number .ensures)
+    field-of-refused (now (a .file)) (a .field) (c .before .before .before .before .before .read-header .ensures)
+    (c .before .before .before .header .given .1) (c .before .if1 .taken) (c .header-refusal-number .ensures)
 
 returns-2 : tie.Need-returns-2
 returns-2 c =
     let a = c .before .before .before .before .before .before .args in
-    no-field-of-refused (now (a .file)) (a .field) (c .before .before .before .before .read-header .ensures) (c .before .before .header .given .1) (c .if1 .left)
+    no-field-of-refused (now (a .file)) (a .field) (c .before .before .before .before .read-header .ensures) (c .before .before .header .given .1)
+    (c .if1 .left)
 
 returns-3 : tie.Need-returns-3
 returns-3 c =
     let a = c .before .before .before .before .before .before .args in
     let v = c .before .before .header2 .given .0 in
-    field-of-plate (now (a .file)) (a .field) (c .before .before .before .before .read-header .ensures) (v .0) (v .1 .0) (v .1 .1 .1 .0) (v .1 .1 .0) (c .before .before .header2 .given .1) (c .plate-field .ensures)
+    field-of-plate (now (a .file)) (a .field) (c .before .before .before .before .read-header .ensures) (v .0) (v .1 .0) (v .1 .1 .1 .0) (v .1 .1 .0)
+    (c .before .before .header2 .given .1) (c .plate-field .ensures)
 
 pub plate-header-spec : {M : Type 1} → statement M
 plate-header-spec =

@@ -9,6 +9,9 @@ use Rattle.pvrtc.proofs.Unique.{number-small}
 use Rattle.capi.proofs.plate_texel.Statement.{statement}
 use Rattle.capi.proofs.plate_texel.Tie as tie
 
+picture-of-requires : tie.Need-picture-of-requires
+picture-of-requires c κs = search needs
+
 decode-texel-requires : tie.Need-decode-texel-requires
 decode-texel-requires c κs = search needs
 
@@ -31,18 +34,22 @@ mul-result c =
 
 returns : tie.Need-returns
 returns c =
-    let a = c .before .before .before .before .before .args in
-    of-word (plate (a .width) (a .height) (a .depth)) (now (a .«data»)) (a .x) (a .y) (c .before .before .before .decode-texel .ensures) (c .before .answer .given .1)
+    let a = c .before .before .before .before .before .before .args in
+    let read = rw (c .before .before .before .before .picture-of .ensures) at (c .before .before .before .decode-texel .ensures) in
+    of-word (plate (a .width) (a .height) (a .depth)) (now (a .«data»)) (a .x) (a .y) read (c .before .answer .given .1)
 
 returns-2 : tie.Need-returns-2
 returns-2 c =
-    let a = c .before .before .before .before .before .before .args in
-    of-refusal (plate (a .width) (a .height) (a .depth)) (now (a .«data»)) (a .x) (a .y) (c .before .before .before .before .decode-texel .ensures) (c .before .before .answer2 .given .1) (c .refusal-number .ensures)
+    let a = c .before .before .before .before .before .before .before .args in
+    let read = rw (c .before .before .before .before .before .picture-of .ensures) at (c .before .before .before .before .decode-texel .ensures) in
+    of-refusal (plate (a .width) (a .height) (a .depth)) (now (a .«data»)) (a .x) (a .y) read (c .before .before .answer2 .given .1)
+    (c .refusal-number .ensures)
 
 pub plate-texel-spec : {M : Type 1} → statement M
 plate-texel-spec =
     tie.close
     (tie.spec
+    picture-of-requires
     decode-texel-requires
     enum-known-answer
     cast-result

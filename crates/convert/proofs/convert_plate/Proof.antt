@@ -1,7 +1,6 @@
 -- `convert::convert_plate` meets its contract. Assumes nothing.
 use native.Mathlib.Omega.{arith}
 use borrow.Author.Needs.{needs}
-use Rattle.pvrtc.specs.Calls.{picture}
 use Rattle.convert.proofs.Answers.{by-limit, by-call, by-picture}
 use Rattle.convert.proofs.Limits.{says-none, tga-fits}
 use Rattle.pvrtc.proofs.Unique.{number-small}
@@ -21,11 +20,11 @@ returns : tie.Need-returns
 returns c =
     let k = c .before .before .before .before .before in
     let a = k .before .before .before .before .args in
-    by-limit (picture (a .width) (a .height) (a .is2bpp)) (a .metadata) (a .«data» .now) (k .limit-refusal .ensures .0) (c .before .before .before .before .if1 .taken)
+    by-limit (a .p) (a .metadata) (a .«data» .now) (k .limit-refusal .ensures .0) (c .before .before .before .before .if1 .taken)
     (c .before .before .put-refused .ensures)
 
-decode-pvrtc-requires : tie.Need-decode-pvrtc-requires
-decode-pvrtc-requires c κs = search needs
+decode-picture-requires : tie.Need-decode-picture-requires
+decode-picture-requires c κs = search needs
 
 enum-told : tie.Need-enum-told
 enum-told c = search needs
@@ -36,7 +35,7 @@ put-tga-requires c κs =
     let l = k .before .before .before in
     let a = l .before .before .before .before .args in
     let none = says-none (l .limit-refusal .ensures .0) (k .before .before .if1 .left) in
-    tga-fits (picture (a .width) (a .height) (a .is2bpp)) (a .metadata) none (l .before .before .before .before .pre) (k .decode-pvrtc .kept .1 .1 .1 .0)
+    tga-fits (a .p) (a .metadata) none (l .before .before .before .before .pre) (k .decode-picture .kept .1 .1 .0)
 
 enum-known-decoded : tie.Need-enum-known-decoded
 enum-known-decoded c = search needs
@@ -46,8 +45,11 @@ refusal-number-requires c κs = search needs
 
 put-refused-requires-2 : tie.Need-put-refused-requires-2
 put-refused-requires-2 c κs =
-    let few = number-small (c .before .before .before .decoded .given .0 .0) in
-    (omega (arith, c .before .refusal-number .ensures, few), omega (arith, c .before .before .before .before .before .before .before .before .before .before .before .before .before .before .pre .bytes))
+    let few = number-small (c .before .before .before .decoded .given .0 .0) in (
+      omega (arith, c .before .refusal-number .ensures, few),
+      omega
+          (arith, c .before .before .before .before .before .before .before .before .before .before .before .before .before .before .pre .bytes),
+    )
 
 same-length-2 : tie.Need-same-length-2
 same-length-2 c = search needs
@@ -61,7 +63,7 @@ returns-2 c =
     let l = k .before .before .before in
     let a = l .before .before .before .before .args in
     let none = says-none (l .limit-refusal .ensures .0) (k .before .before .if1 .left) in
-    by-picture (picture (a .width) (a .height) (a .is2bpp)) (a .metadata) (a .«data» .now) none (l .before .before .before .before .pre .words) (k .decode-pvrtc .ensures)
+    by-picture (a .p) (a .metadata) (a .«data» .now) none (l .before .before .before .before .pre .words) (k .decode-picture .ensures)
     (c .before .before .before .before .before .enum-told .given .1) (c .before .before .put-tga .ensures)
 
 same-length-4 : tie.Need-same-length-4
@@ -76,8 +78,9 @@ returns-3 c =
     let l = k .before .before .before in
     let a = l .before .before .before .before .args in
     let none = says-none (l .limit-refusal .ensures .0) (k .before .before .if1 .left) in
-    by-call (picture (a .width) (a .height) (a .is2bpp)) (a .metadata) (a .«data» .now) none (l .before .before .before .before .pre .words) (k .decode-pvrtc .ensures)
-    (c .before .before .before .before .before .before .decoded .given .1) (c .before .before .before .before .refusal-number .ensures) (c .before .before .put-refused2 .ensures)
+    by-call (a .p) (a .metadata) (a .«data» .now) none (l .before .before .before .before .pre .words) (k .decode-picture .ensures)
+    (c .before .before .before .before .before .before .decoded .given .1) (c .before .before .before .before .refusal-number .ensures)
+    (c .before .before .put-refused2 .ensures)
 
 pub convert-plate-spec : {M : Type 1} → statement M
 convert-plate-spec =
@@ -87,7 +90,7 @@ convert-plate-spec =
     put-refused-requires
     same-length
     returns
-    decode-pvrtc-requires
+    decode-picture-requires
     enum-told
     put-tga-requires
     enum-known-decoded

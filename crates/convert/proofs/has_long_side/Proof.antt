@@ -7,7 +7,7 @@ returns : tie.Need-returns
 returns c = simp (lt-ltb _ _ (c .if1 .taken))
 
 returns-2 : tie.Need-returns-2
-returns-2 c = simp (le-ltb _ _ (c .if1 .left))
+returns-2 c = simp (le-ltb _ _ (c .before .if1 .left))
 
 pub has-long-side-spec : {M : Type 1} → statement M
 has-long-side-spec = tie.close (tie.spec returns returns-2)

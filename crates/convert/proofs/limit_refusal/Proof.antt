@@ -1,13 +1,17 @@
 -- `convert::limit_refusal` meets its contract: the limits are asked in their order. Assumes nothing.
-use mathlib.Core.Path.{_≡_, sym, ap₂, _∙_}
-use Prim.Native.Nat.{ℕ, _*_, _<_, _≤_}
+use mathlib.Core.List.{[], _∷_}
+use mathlib.Core.Path.{_≡_, sym, ap, _∙_}
+use Prim.Native.Nat.{ℕ}
 use native.Mathlib.Omega.{arith}
 use borrow.Author.Needs.{needs}
 use borrow.Author.Tests.{lt-ltb, le-ltb}
 use Rattle.facts.proofs.Order.{holds-here, holds-later, none-left}
-use Rattle.pvrtc.specs.Calls.{picture}
-use Rattle.pvrtc.specs.Refusals.{across, down, need}
-use Rattle.convert.proofs.Limits.{few-blocks}
+use Rattle.facts.specs.Checks.{check, firstOf}
+use Rattle.grid.specs.Words.{wordBytes}
+use Rattle.pvrtc.specs.Refusals.{need}
+use Rattle.pvrtc.proofs.Accepted.{few-across, few-down}
+use Rattle.convert.specs.Output.{largeNeed, limitChecks}
+use Rattle.convert.proofs.Limits.{not-large}
 use Rattle.convert.proofs.limit_refusal.Statement.{statement}
 use Rattle.convert.proofs.limit_refusal.Tie as tie
 
@@ -35,55 +39,35 @@ returns-3 c = (
   omega arith,
 )
 
-num-blocks-x-requires : tie.Need-num-blocks-x-requires
-num-blocks-x-requires c κs = search needs
+grid-of-requires : tie.Need-grid-of-requires
+grid-of-requires c κs = search needs
 
-num-blocks-y-requires : tie.Need-num-blocks-y-requires
-num-blocks-y-requires c κs = search needs
+need-of-requires : tie.Need-need-of-requires
+need-of-requires c κs =
+    let p = c .before .before .before .before .before .before .args .p in
+    let small = not-large p (sym (c .before .before .has-long-side .ensures) ∙ c .before .if3 .left) in
+    rw (c .grid-of .ensures) (few-across p small, few-down p small)
 
-mul-blocks : tie.Need-mul-blocks
-mul-blocks c =
-    let a = c .before .before .before .before .before .before .before .args in
-    let p = picture (a .width) (a .height) (a .is2bpp) in
-    let few = few-blocks p (sym (c .before .before .before .has-long-side .ensures) ∙ c .before .before .if3 .left) in
-    let same = ap₂ (λ (m n : ℕ). m * n) (c .before .num-blocks-x .ensures) (c .num-blocks-y .ensures) in
-    omega (arith, few, same)
+-- past the other limits, with the need that was asked for
+asked : (k : tie.After-need-of) → k .need-of .result ≡ need (k .before .before .before .before .before .before .before .args .p)
+asked k = k .need-of .ensures ∙ ap wordBytes (k .before .grid-of .ensures)
 
-mul-if4 : tie.Need-mul-if4
-mul-if4 c =
-    let a = c .before .before .before .before .before .before .before .args in
-    let p = picture (a .width) (a .height) (a .is2bpp) in
-    let few = few-blocks p (sym (c .before .before .before .has-long-side .ensures) ∙ c .before .before .if3 .left) in
-    let same = ap₂ (λ (m n : ℕ). m * n) (c .before .num-blocks-x .ensures) (c .num-blocks-y .ensures) in
-    omega (arith, few, same)
+past-limits : (k : tie.After-need-of) (n : ℕ) → let p = k .before .before .before .before .before .before .before .args .p in
+    n ≡ firstOf (check (largeNeed p) 23 ∷ []) → n ≡ firstOf (limitChecks p (k .before .before .before .before .before .before .before .args .metadata))
+past-limits k n e =
+    holds-later _ _ _ (le-ltb 4096 _ (k .before .before .before .before .before .before .if1 .left))
+    (holds-later _ _ _ (sym (k .before .before .before .before .before .has-zero-side .ensures) ∙ k .before .before .before .before .if2 .left)
+    (holds-later _ _ _ (sym (k .before .before .before .has-long-side .ensures) ∙ k .before .before .if3 .left) e))
 
 returns-4 : tie.Need-returns-4
 returns-4 c =
     let k = c .before in
-    let a = k .before .before .before .before .before .before .before .args in
-    let p = picture (a .width) (a .height) (a .is2bpp) in
-    let same : k .before .num-blocks-x .result * k .num-blocks-y .result ≡ across p * down p = ap₂ (λ (m n : ℕ). m * n) (k .before .num-blocks-x .ensures) (k .num-blocks-y .ensures) in
-    let asked : 32768 < need p = omega (arith, same) in (
-      holds-later _ _ _ (le-ltb 4096 _ (k .before .before .before .before .before .before .if1 .left))
-          (holds-later _ _ _ (sym (k .before .before .before .before .before .has-zero-side .ensures) ∙ k .before .before .before .before .if2 .left)
-          (holds-later _ _ _ (sym (k .before .before .before .has-long-side .ensures) ∙ k .before .before .if3 .left)
-          (holds-here _ _ _ (lt-ltb 32768 (need p) asked)))),
-      omega arith,
-    )
+    (past-limits k 23 (holds-here _ _ _ (lt-ltb 32768 _ (rw (asked k) at (c .if4 .taken)))), omega arith)
 
 returns-5 : tie.Need-returns-5
 returns-5 c =
     let k = c .before in
-    let a = k .before .before .before .before .before .before .before .args in
-    let p = picture (a .width) (a .height) (a .is2bpp) in
-    let same : k .before .num-blocks-x .result * k .num-blocks-y .result ≡ across p * down p = ap₂ (λ (m n : ℕ). m * n) (k .before .num-blocks-x .ensures) (k .num-blocks-y .ensures) in
-    let asked : need p ≤ 32768 = omega (arith, same) in (
-      holds-later _ _ _ (le-ltb 4096 _ (k .before .before .before .before .before .before .if1 .left))
-          (holds-later _ _ _ (sym (k .before .before .before .before .before .has-zero-side .ensures) ∙ k .before .before .before .before .if2 .left)
-          (holds-later _ _ _ (sym (k .before .before .before .has-long-side .ensures) ∙ k .before .before .if3 .left)
-          (holds-later _ _ _ (le-ltb 32768 (need p) asked) none-left))),
-      omega arith,
-    )
+    (past-limits k 0 (holds-later _ _ _ (le-ltb 32768 _ (rw (asked k) at (c .if4 .left))) none-left), omega arith)
 
 pub limit-refusal-spec : {M : Type 1} → statement M
 limit-refusal-spec =
@@ -94,9 +78,7 @@ limit-refusal-spec =
     returns-2
     has-long-side-requires
     returns-3
-    num-blocks-x-requires
-    num-blocks-y-requires
-    mul-blocks
-    mul-if4
+    grid-of-requires
+    need-of-requires
     returns-4
     returns-5)

@@ -32,14 +32,21 @@ add-t25 c = search needs
 
 add-t27 : tie.Need-add-t27
 add-t27 c =
-    let l : Low (8 * half false) (c .before .before .before .before .before .before .before .before .before .args .s) = rw (c .before .before .before .before .before .before .before .before .if1 .left) at (c .before .before .before .before .before .before .before .before .before .pre) in
+    let start = c .before .before .before .before .before .before .before .before .before in
+    let l : Low (8 * half false) (start .args .s) = rw (c .before .before .before .before .before .before .before .before .if1 .left) at (start .pre) in
     omega (arith, l .a)
 
 returns : tie.Need-returns
-returns c = rw (c .before .before .before .before .before .before .before .before .if1 .taken) (rw (c .before .before .before .before .before .before .before .before .if1 .taken) at (scaled-by (c .before .before .before .before .before .before .before .before .before .args .is2bpp) (c .before .before .before .before .before .before .before .before .before .args .s) (c .before .before .before .before .before .before .before .before .before .pre)))
+returns c =
+    let start = c .before .before .before .before .before .before .before .before .before in
+    rw (c .before .before .before .before .before .before .before .before .if1 .taken)
+    (rw (c .before .before .before .before .before .before .before .before .if1 .taken) at (scaled-by (start .args .is2bpp) (start .args .s) (start .pre)))
 
 returns-2 : tie.Need-returns-2
-returns-2 c = rw (c .before .before .before .before .before .before .before .before .if1 .left) (rw (c .before .before .before .before .before .before .before .before .if1 .left) at (scaled-by (c .before .before .before .before .before .before .before .before .before .args .is2bpp) (c .before .before .before .before .before .before .before .before .before .args .s) (c .before .before .before .before .before .before .before .before .before .pre)))
+returns-2 c =
+    let start = c .before .before .before .before .before .before .before .before .before in
+    rw (c .before .before .before .before .before .before .before .before .if1 .left)
+    (rw (c .before .before .before .before .before .before .before .before .if1 .left) at (scaled-by (start .args .is2bpp) (start .args .s) (start .pre)))
 
 pub scale-spec : {M : Type 1} → statement M
 scale-spec =

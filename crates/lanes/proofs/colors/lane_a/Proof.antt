@@ -5,7 +5,7 @@ use Prim.Native.Nat.{_+_, _*_, _/_, _%_}
 use native.Mathlib.Omega.{arith}
 use borrow.Author.Needs.{needs}
 use Rattle.word.specs.Word.{opaque}
-use Rattle.lanes.proofs.Reading.{color-lanes, translucent}
+use Rattle.lanes.proofs.Reading.{clearLanes, color-lanes, widened-color}
 use Rattle.lanes.proofs.colors.lane_a.Statement.{statement}
 use Rattle.lanes.proofs.colors.lane_a.Tie as tie
 
@@ -64,8 +64,8 @@ returns : tie.Need-returns
 returns c =
     let k = c .before .before .args .c in
     let b = k / 2 % 8 * 4 + k / 4 % 4 in
-    let w = translucent k 0 (omega arith) (omega arith) (c .before .widen .ensures .0) in
-    let y : b + c .before .widen .result + 1125899906842624 * (k / 4096 % 8) ≡ b + 65536 * (k / 256 % 16 * 2 + k / 2048 % 2) + 4294967296 * (k / 16 % 16 * 2 + k / 128 % 2) + 1125899906842624 * (k / 4096 % 8) = omega arith in
+    let w = widened-color k 0 (omega arith) (omega arith) (c .before .widen .ensures .0) in
+    let y : b + c .before .widen .result + 1125899906842624 * (k / 4096 % 8) ≡ clearLanes k b = omega arith in
     c .pick .ensures ∙ ap (cond (opaque k) _) y ∙ color-lanes k (k / 2 % 16 * 2 + k / 16 % 2) b
 
 pub lane-a-spec : {M : Type 1} → statement M

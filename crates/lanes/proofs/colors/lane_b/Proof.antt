@@ -6,7 +6,7 @@ use native.Mathlib.Omega.{arith}
 use borrow.Author.Needs.{needs}
 use Rattle.word.specs.Word.{opaque, colorOf}
 use Rattle.lanes.specs.Lanes.{colorLanes}
-use Rattle.lanes.proofs.Reading.{color-lanes, top-bit, translucent}
+use Rattle.lanes.proofs.Reading.{clearLanes, color-lanes, top-bit, widened-color}
 use Rattle.lanes.proofs.colors.lane_b.Statement.{statement}
 use Rattle.lanes.proofs.colors.lane_b.Tie as tie
 
@@ -52,11 +52,12 @@ pick-requires c κs = search needs
 returns : tie.Need-returns
 returns c =
     let k = c .before .before .args .c in
-    let w = translucent k (k % 16) (omega arith) refl (c .before .widen .ensures .0) in
+    let w = widened-color k (k % 16) (omega arith) refl (c .before .widen .ensures .0) in
     let b = top-bit k in
-    let y : c .before .widen .result + 1125899906842624 * (k / 4096 % 8) ≡ (k % 16 * 2 + k / 8 % 2) + 65536 * (k / 256 % 16 * 2 + k / 2048 % 2) + 4294967296 * (k / 16 % 16 * 2 + k / 128 % 2) + 1125899906842624 * (k / 4096 % 8) = omega arith in
+    let y : c .before .widen .result + 1125899906842624 * (k / 4096 % 8) ≡ clearLanes k (k % 16 * 2 + k / 8 % 2) = omega arith in
     let e : k ≡ k / 1 = omega arith in
-    c .pick .ensures ∙ ap (cond (opaque k) _) y ∙ color-lanes k (k % 32) (k % 16 * 2 + k / 8 % 2) ∙ ap (λ (n : ℕ). colorLanes (colorOf k (cond (opaque k) (n % 32) (n % 16 * 2 + k / 8 % 2)))) e
+    c .pick .ensures ∙ ap (cond (opaque k) _) y ∙ color-lanes k (k % 32) (k % 16 * 2 + k / 8 % 2)
+    ∙ ap (λ (n : ℕ). colorLanes (colorOf k (cond (opaque k) (n % 32) (n % 16 * 2 + k / 8 % 2)))) e
 
 pub lane-b-spec : {M : Type 1} → statement M
 lane-b-spec =

@@ -73,9 +73,14 @@ add-t27 c = search needs
 
 returns : tie.Need-returns
 returns c =
-    let a = c .before .before .before .before .before .before .before .args in
-    summed-is (now (a .d)) (a .p) (a .q) (a .s) (c .before .before .before .before .before .word-a .ensures .0) (c .before .before .before .before .word-a2 .ensures .0) (c .before .before .before .word-a3 .ensures .0)
-    (c .before .before .word-b .ensures .0) (c .before .word-b2 .ensures .0) (c .word-b3 .ensures .0)
+    let own-b = c .before in
+    let above-b = own-b .before in
+    let below-a = above-b .before in
+    let own-a = below-a .before in
+    let above-a = own-a .before in
+    let a = above-a .before .before .args in
+    summed-is (now (a .d)) (a .above) (a .own) (a .below) (above-a .word-a .ensures .0) (own-a .word-a2 .ensures .0) (below-a .word-a3 .ensures .0)
+    (above-b .word-b .ensures .0) (own-b .word-b2 .ensures .0) (c .word-b3 .ensures .0)
 
 pub summed-spec : {M : Type 1} → statement M
 summed-spec =

@@ -1,7 +1,7 @@
 -- `lanes::colors::word_a` meets its contract: the bytes of the colour are the word's, and a lane holds at most 31. Assumes nothing.
 use borrow.Author.Needs.{needs}
 use denote.Ref.{now}
-use Rattle.lanes.proofs.Reading.{a-is, a-le}
+use Rattle.lanes.proofs.Reading.{a-is}
 use Rattle.lanes.proofs.colors.word_a.Statement.{statement}
 use Rattle.lanes.proofs.colors.word_a.Tie as tie
 
@@ -20,8 +20,7 @@ lane-a-requires c κs = search needs
 returns : tie.Need-returns
 returns c =
     let a = c .before .before .before .args in
-    let e = a-is (now (a .d)) (a .z) (c .before .half .ensures .0) (c .lane-a .ensures) in
-    (e, rw e (a-le (now (a .d)) (a .z)))
+    a-is (now (a .d)) (a .z) (c .before .half .ensures .0) (c .lane-a .ensures)
 
 pub word-a-spec : {M : Type 1} → statement M
 word-a-spec = tie.close (tie.spec mul-half add-half half-requires lane-a-requires returns)

@@ -1,7 +1,7 @@
 -- `lanes::colors::word_b` meets its contract: the bytes of the colour are the word's, and a lane holds at most 31. Assumes nothing.
 use borrow.Author.Needs.{needs}
 use denote.Ref.{now}
-use Rattle.lanes.proofs.Reading.{b-is, b-le}
+use Rattle.lanes.proofs.Reading.{b-is}
 use Rattle.lanes.proofs.colors.word_b.Statement.{statement}
 use Rattle.lanes.proofs.colors.word_b.Tie as tie
 
@@ -20,8 +20,7 @@ lane-b-requires c κs = search needs
 returns : tie.Need-returns
 returns c =
     let a = c .before .before .before .args in
-    let e = b-is (now (a .d)) (a .z) (c .before .half .ensures .0) (c .lane-b .ensures) in
-    (e, rw e (b-le (now (a .d)) (a .z)))
+    b-is (now (a .d)) (a .z) (c .before .half .ensures .0) (c .lane-b .ensures)
 
 pub word-b-spec : {M : Type 1} → statement M
 word-b-spec = tie.close (tie.spec mul-half add-half half-requires lane-b-requires returns)

@@ -22,7 +22,7 @@ add-result-2 : tie.Need-add-result-2
 add-result-2 c = search needs
 
 returns : tie.Need-returns
-returns c = ap firstForm (c .spread-row .ensures .0) ∙ first-is (eqb (c .before .args .one) 1) (c .before .args .b) (c .before .pre .0)
+returns c = ap firstForm (c .spread-row .ensures .0) ∙ first-is (eqb (c .before .args .mode) 1) (c .before .args .b) (c .before .pre .0)
 
 pub first-row-spec : {M : Type 1} → statement M
 first-row-spec =

@@ -23,8 +23,8 @@ pick-requires c κs = search needs
 returns : tie.Need-returns
 returns c =
     let a = c .before .before .before .args in
-    c .pick .ensures ∙ ap₂ (λ (x y : ℕ). cond (eqb (a .one) 1) (x * 256) y) (c .before .before .codes-row .ensures .0) (c .before .bits-row .ensures .0)
-    ∙ odd-is (eqb (a .one) 1) (a .b) (c .before .before .before .pre .0)
+    c .pick .ensures ∙ ap₂ (λ (x y : ℕ). cond (eqb (a .mode) 1) (x * 256) y) (c .before .before .codes-row .ensures .0) (c .before .bits-row .ensures .0)
+    ∙ odd-is (eqb (a .mode) 1) (a .b) (c .before .before .before .pre .0)
 
 pub odd-row-spec : {M : Type 1} → statement M
 odd-row-spec =

@@ -1,7 +1,11 @@
 -- `lanes::filling::read_rows` meets its contract, byte by byte. Assumes nothing.
+use Prim.Native.Nat.{ℕ, _<_}
+use native.Mathlib.Omega.{arith}
 use borrow.Author.Needs.{needs}
 use denote.Ref.{now}
-use Rattle.lanes.proofs.Stored.{Held, rows-are}
+use lib.ListN.{getD}
+use Rattle.lanes.specs.Column.{wordAt}
+use Rattle.lanes.proofs.Stored.{row-0, row-1, row-2, row-3, rows-are}
 use Rattle.lanes.proofs.filling.read_rows.Statement.{statement}
 use Rattle.lanes.proofs.filling.read_rows.Tie as tie
 
@@ -49,20 +53,22 @@ odd-row-requires-2 c κs = search needs
 
 returns : tie.Need-returns
 returns c =
-    let a = c .before .before .before .before .before .before .before .before .before .before .args in
-    let held : Held (now (a .d)) (a .z) (c .before .before .before .before .before .before .before .byte2 .result) (c .before .before .before .before .before .byte3 .result) (c .before .before .before .byte4 .result) (c .before .byte5 .result) (c .before .before .before .before .before .before .before .before .byte .result) =
-    record {
-      e0 = c .before .before .before .before .before .before .before .byte2 .ensures .0;
-      e1 = c .before .before .before .before .before .byte3 .ensures .0;
-      e2 = c .before .before .before .byte4 .ensures .0;
-      e3 = c .before .byte5 .ensures .0;
-      e4 = c .before .before .before .before .before .before .before .before .byte .ensures .0;
-      l0 = c .before .before .before .before .before .before .before .byte2 .ensures .1;
-      l1 = c .before .before .before .before .before .byte3 .ensures .1;
-      l2 = c .before .before .before .byte4 .ensures .1;
-      l3 = c .before .byte5 .ensures .1;
-    } in
-    rows-are (now (a .d)) (a .z) held (c .before .before .before .before .before .before .first-row .ensures) (c .before .before .before .before .odd-row .ensures) (c .before .before .third-row .ensures) (c .odd-row2 .ensures)
+    let third = c .before .before in
+    let second = third .before .before in
+    let first = second .before .before in
+    let mode = first .before .before in
+    let known = mode .before in
+    let a = known .before .args in
+    let d = now (a .d) in
+    let z = a .z in
+    let small : (i : ℕ) → getD d i 0 < 256 = λ i. omega (arith, known .shared-slice-known .given i) in
+    let m = mode .byte .ensures .0 in
+    let at-0 = first .before .byte2 .ensures .0 in
+    rows-are (wordAt d z)
+    (row-0 d z small m at-0 (first .first-row .ensures) .0)
+    (row-1 d z small m (second .before .byte3 .ensures .0) (second .odd-row .ensures) .0)
+    (row-2 d z small m (third .before .byte4 .ensures .0) at-0 (third .third-row .ensures) .0)
+    (row-3 d z small m (c .before .byte5 .ensures .0) (c .odd-row2 .ensures) .0)
 
 pub read-rows-spec : {M : Type 1} → statement M
 read-rows-spec =

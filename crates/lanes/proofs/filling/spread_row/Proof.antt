@@ -4,7 +4,7 @@ use mathlib.Core.Bool.{cond}
 use native.Mathlib.Omega.{arith}
 use borrow.Author.Needs.{needs}
 use lib.Dec.{eqb}
-use Rattle.lanes.proofs.Reading.{either-le}
+use Rattle.facts.proofs.Numbers.{cond-le}
 use Rattle.lanes.proofs.filling.spread_row.Statement.{statement}
 use Rattle.lanes.proofs.filling.spread_row.Tie as tie
 
@@ -19,10 +19,10 @@ pick-requires c κs = search needs
 
 returns : tie.Need-returns
 returns c =
-    let t = eqb (c .before .before .before .args .one) 1 in
+    let t = eqb (c .before .before .before .args .mode) 1 in
     let x = c .before .before .codes-row .ensures in
     let y = c .before .bits-row .ensures in
-    (c .pick .ensures ∙ ap₂ (cond t) (x .0) (y .0), rw (c .pick .ensures) (either-le t (omega (arith, x .1)) (y .1)))
+    (c .pick .ensures ∙ ap₂ (cond t) (x .0) (y .0), rw (c .pick .ensures) (cond-le t (omega (arith, x .1)) (y .1)))
 
 pub spread-row-spec : {M : Type 1} → statement M
 spread-row-spec = tie.close (tie.spec codes-row-requires bits-row-requires pick-requires returns)

@@ -30,7 +30,8 @@ returns c =
     let a = c .before .before .args in
     let v = c .before .spread-row .result in
     ap (λ (n : ℕ). v - v / 4294967296 % 256 * 4294967296 + n * 4294967296) (c .adjust .ensures .0)
-    ∙ ap (thirdForm (eqb (a .bit) 1)) (c .before .spread-row .ensures .0) ∙ third-is (eqb (a .one) 1) (eqb (a .bit) 1) (a .b) (c .before .before .pre .0)
+    ∙ ap (thirdForm (eqb (a .bit) 1)) (c .before .spread-row .ensures .0)
+    ∙ third-is (eqb (a .mode) 1) (eqb (a .bit) 1) (a .b) (c .before .before .pre .0)
 
 pub third-row-spec : {M : Type 1} → statement M
 third-row-spec =

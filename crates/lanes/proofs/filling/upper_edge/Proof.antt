@@ -2,7 +2,7 @@
 use native.Mathlib.Omega.{arith}
 use borrow.Author.Needs.{needs}
 use denote.Ref.{now}
-use Rattle.lanes.proofs.Stored.{edge-0}
+use Rattle.lanes.proofs.Stored.{row-0}
 use Rattle.lanes.proofs.filling.upper_edge.Statement.{statement}
 use Rattle.lanes.proofs.filling.upper_edge.Tie as tie
 
@@ -26,8 +26,10 @@ first-row-requires c κs = search needs
 
 returns : tie.Need-returns
 returns c =
-    let a = c .before .before .before .before .args in
-    edge-0 (now (a .d)) (a .z) (λ i. omega (arith, c .before .before .before .shared-slice-known .given i)) (c .before .byte2 .ensures .0) (c .before .before .byte .ensures .0) (c .first-row .ensures)
+    let known = c .before .before .before in
+    let a = known .before .args in
+    row-0 (now (a .d)) (a .z) (λ i. omega (arith, known .shared-slice-known .given i)) (c .before .before .byte .ensures .0) (c .before .byte2 .ensures .0)
+    (c .first-row .ensures)
 
 pub upper-edge-spec : {M : Type 1} → statement M
 upper-edge-spec =

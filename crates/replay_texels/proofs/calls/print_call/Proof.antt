@@ -5,6 +5,9 @@ use borrow.Author.Needs.{needs}
 use Rattle.replay_texels.proofs.calls.print_call.Statement.{statement}
 use Rattle.replay_texels.proofs.calls.print_call.Tie as tie
 
+picture-of-requires : tie.Need-picture-of-requires
+picture-of-requires c κs = search needs
+
 slice-aggregate-fill : tie.Need-slice-aggregate-fill
 slice-aggregate-fill c = search needs
 
@@ -36,6 +39,7 @@ pub print-call-spec : {M : Type 1} → statement M
 print-call-spec =
     tie.close
     (tie.spec
+    picture-of-requires
     slice-aggregate-fill
     fill-requires
     least-requires

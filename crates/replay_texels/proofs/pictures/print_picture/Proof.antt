@@ -5,6 +5,9 @@ use borrow.Author.Needs.{needs}
 use Rattle.replay_texels.proofs.pictures.print_picture.Statement.{statement}
 use Rattle.replay_texels.proofs.pictures.print_picture.Tie as tie
 
+picture-of-requires : tie.Need-picture-of-requires
+picture-of-requires c κs = search needs
+
 print-title-requires : tie.Need-print-title-requires
 print-title-requires c κs = search needs
 
@@ -30,6 +33,7 @@ pub print-picture-spec : {M : Type 1} → statement M
 print-picture-spec =
     tie.close
     (tie.spec
+    picture-of-requires
     print-title-requires
     bytes-of-requires
     least-requires

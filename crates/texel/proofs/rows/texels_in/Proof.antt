@@ -4,9 +4,9 @@ use Prim.Native.Nat.{_+_, _-_, _≤_}
 use native.Mathlib.Omega.{arith}
 use denote.Ref.{now}
 use borrow.Author.Needs.{needs}
-use Rattle.facts.proofs.Tab.{Filled, filled-none, filled-more}
+use Rattle.facts.proofs.Tab.{Filled, filled-none, filled-more, filled-length}
 use Rattle.grid.specs.Grid.{half}
-use Rattle.texel.proofs.Across.{row-at, few-shares, window-low, weights-low, with-texels, same-size}
+use Rattle.texel.proofs.Across.{row-at, few-shares, window-low, weights-low, with-texels}
 use Rattle.texel.proofs.Shares.{half-high}
 use Rattle.texel.specs.Summed.{texelBy}
 use Rattle.texel.specs.Texel.{packed}
@@ -48,22 +48,40 @@ loop-holds : tie.Need-loop-holds Inv-loop μ-loop
 loop-holds c = (omega arith, filled-none _ _)
 
 add-texel-by : tie.Need-add-texel-by Inv-loop μ-loop
-add-texel-by c = omega (arith, c .before .before .before .before .before .before .before .before .before .before .before .before .before .pre .0, half-high (c .before .before .before .before .before .before .before .before .before .before .before .before .before .args .is2bpp))
+add-texel-by c =
+    omega (
+      arith,
+      c .before .before .before .before .before .before .before .before .before .before .before .before .before .pre .0,
+      half-high
+          (c .before .before .before .before .before .before .before .before .before .before .before .before .before .args .is2bpp),
+    )
 
 texel-by-requires : tie.Need-texel-by-requires Inv-loop μ-loop
 texel-by-requires c κs =
     let a = c .before .before .before .before .before .before .before .before .before .before .before .before .before .args in
     let p = c .before .before .before .before .before .before .before .before .before .before .before .before .before .pre in
     let row = row-at 2 (a .py) (c .before .before .before .before .before .before .before .before .before .before .narrow-shares .ensures) (p .1) in (
-      (c .before .before .before .before .before .before .before .before .before .before .before .wide-shares .ensures, c .before .before .before .before .before .before .before .before .before .before .narrow-shares .ensures, record { across = omega arith; down = p .1 }),
-      (rw (c .before .before .before .before .before .before .before .before .before .weights-in .ensures) (weights-low (a .is2bpp) (a .t1) (p .2)), rw (c .before .before .before .before .before .before .sum-down .ensures, row) (window-low (a .t1) (a .py) (p .2 .small) (p .1))),
+      (
+        c .before .before .before .before .before .before .before .before .before .before .before .wide-shares .ensures,
+        c .before .before .before .before .before .before .before .before .before .before .narrow-shares .ensures,
+        record { across = omega arith; down = p .1 },
+      ),
+      (
+        rw (c .before .before .before .before .before .before .before .before .before .weights-in .ensures) (weights-low (a .is2bpp) (a .t1) (p .2)),
+        rw (c .before .before .before .before .before .before .sum-down .ensures, row) (window-low (a .t1) (a .py) (p .2 .small) (p .1)),
+      ),
     )
 
 mul-texels : tie.Need-mul-texels Inv-loop μ-loop
-mul-texels c = omega (arith, c .before .before .before .before .before .before .before .before .before .before .before .before .before .before .pre .0, half-high (c .before .before .before .before .before .before .before .before .before .before .before .before .before .before .args .is2bpp))
+mul-texels c =
+    omega (
+      arith,
+      c .before .before .before .before .before .before .before .before .before .before .before .before .before .before .pre .0,
+      half-high (c .before .before .before .before .before .before .before .before .before .before .before .before .before .before .args .is2bpp),
+    )
 
 slice-write-texels : tie.Need-slice-write-texels Inv-loop μ-loop
-slice-write-texels c = omega (arith, same-size (c .before .before .before .before .before .loop .inv .1) (omega arith))
+slice-write-texels c = omega (arith, filled-length (c .before .before .before .before .before .loop .inv .1) (omega arith))
 
 add-i : tie.Need-add-i Inv-loop μ-loop
 add-i c = search needs
@@ -75,7 +93,7 @@ loop-again : tie.Need-loop-again Inv-loop μ-loop
 loop-again c = (omega arith, filled-more (c .before .before .before .before .before .loop .inv .1) (c .texel-by .ensures) (omega arith))
 
 same-length : tie.Need-same-length Inv-loop μ-loop
-same-length c = same-size (c .before .loop .inv .1) (omega arith)
+same-length c = filled-length (c .before .loop .inv .1) (omega arith)
 
 returns : tie.Need-returns Inv-loop μ-loop
 returns c =
@@ -83,7 +101,10 @@ returns c =
     let p = c .before .before .before .before .before .before .before .before .before .before .pre in
     let l = c .before .loop in
     let all : l .i ≡ a .count = omega arith in
-    with-texels (a .is2bpp) (a .t1) (a .px) (a .py) (a .count) (now (a .texels)) (p .0) (p .1) (c .before .before .before .before .before .before .weights-in .ensures) (row-at 2 (a .py) (c .before .before .before .before .before .before .before .narrow-shares .ensures) (p .1)) (c .before .before .before .sum-down .ensures) refl
+    with-texels (a .is2bpp) (a .t1) (a .px) (a .py) (a .count) (now (a .texels)) (p .0) (p .1)
+    (c .before .before .before .before .before .before .weights-in .ensures)
+    (row-at 2 (a .py) (c .before .before .before .before .before .before .before .narrow-shares .ensures) (p .1))
+    (c .before .before .before .sum-down .ensures) refl
     (rw (← all) (l .inv .1 .is))
 
 pub texels-in-spec : {M : Type 1} → statement M

@@ -18,7 +18,9 @@ mul-result-2 : tie.Need-mul-result-2
 mul-result-2 c = omega (arith, mul-le-mul (c .before .before .pre .1) (c .before .before .pre .3 .few 1 (omega arith)))
 
 add-result : tie.Need-add-result
-add-result c = omega (arith, mul-le-mul (c .before .before .pre .0) (c .before .before .pre .3 .few 0 (omega arith)), mul-le-mul (c .before .before .pre .1) (c .before .before .pre .3 .few 1 (omega arith)))
+add-result c =
+    let start = c .before .before in
+    omega (arith, mul-le-mul (start .pre .0) (start .pre .3 .few 0 (omega arith)), mul-le-mul (start .pre .1) (start .pre .3 .few 1 (omega arith)))
 
 element-copy-out-result-3 : tie.Need-element-copy-out-result-3
 element-copy-out-result-3 c = search needs
@@ -27,7 +29,14 @@ mul-result-3 : tie.Need-mul-result-3
 mul-result-3 c = omega (arith, mul-le-mul (c .before .before .before .pre .2) (c .before .before .before .pre .3 .few 2 (omega arith)))
 
 add-result-2 : tie.Need-add-result-2
-add-result-2 c = omega (arith, mul-le-mul (c .before .before .before .pre .0) (c .before .before .before .pre .3 .few 0 (omega arith)), mul-le-mul (c .before .before .before .pre .1) (c .before .before .before .pre .3 .few 1 (omega arith)), mul-le-mul (c .before .before .before .pre .2) (c .before .before .before .pre .3 .few 2 (omega arith)))
+add-result-2 c =
+    let start = c .before .before .before in
+    omega (
+      arith,
+      mul-le-mul (start .pre .0) (start .pre .3 .few 0 (omega arith)),
+      mul-le-mul (start .pre .1) (start .pre .3 .few 1 (omega arith)),
+      mul-le-mul (start .pre .2) (start .pre .3 .few 2 (omega arith)),
+    )
 
 returns : tie.Need-returns
 returns c = search needs

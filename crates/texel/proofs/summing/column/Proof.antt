@@ -53,7 +53,8 @@ weighed-requires c κs =
 returns : tie.Need-returns
 returns c =
     let a = c .before .before .before .before .before .before .before .args in
-    column-is (a .t1) (a .second) (a .i) (now (a .row)) (c .before .before .before .before .before .color-of .ensures) (c .before .before .before .color-of2 .ensures) (c .before .color-of3 .ensures) (c .weighed .ensures)
+    column-is (a .t1) (a .second) (a .i) (now (a .row)) (c .before .before .before .before .before .color-of .ensures)
+    (c .before .before .before .color-of2 .ensures) (c .before .color-of3 .ensures) (c .weighed .ensures)
 
 pub column-spec : {M : Type 1} → statement M
 column-spec =

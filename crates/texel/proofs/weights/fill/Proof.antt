@@ -104,7 +104,8 @@ returns c =
 returns-2 : tie.Need-returns-2
 returns-2 c =
     let a = c .before .before .before .before .before .before .args in (
-      by-around (half (a .is2bpp)) (onlyWeights (now (a .weights))) (a .x) (a .y) (c .before .before .before .before .enum-told2 .given .1) (c .before .before .before .near2 .ensures .0) (c .before .before .near3 .ensures .0) (c .before .near4 .ensures .0) (c .near5 .ensures .0),
+      by-around (half (a .is2bpp)) (onlyWeights (now (a .weights))) (a .x) (a .y) (c .before .before .before .before .enum-told2 .given .1)
+          (c .before .before .before .near2 .ensures .0) (c .before .before .near3 .ensures .0) (c .before .near4 .ensures .0) (c .near5 .ensures .0),
       omega arith,
     )
 

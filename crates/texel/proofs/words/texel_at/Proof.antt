@@ -46,11 +46,15 @@ needed-words-requires c κs =
     let width = c .before .before .before .before .before .before .before .block-width .ensures in
     let at = place (a .g .is2bpp) (a .x) (a .y) width in
     let across = few-across (a .g .is2bpp) _ (at .across) (c .before .before .before .before .shares-across .ensures) in
-    let row = row-at 2 (a .y % 4) (c .before .before .before .before .before .before .before .before .narrow-shares .ensures) (at .down) in
-    ((c .before .before .before .before .before .before .before .before .before .before .spread-table .ensures, start .pre .0), (rw width (start .pre .1), across, rw row (few-shares 2 (a .y % 4) (omega arith) (at .down))))
+    let row = row-at 2 (a .y % 4) (c .before .before .before .before .before .before .before .before .narrow-shares .ensures) (at .down) in (
+      (c .before .before .before .before .before .before .before .before .before .before .spread-table .ensures, start .pre .0),
+      (rw width (start .pre .1), across, rw row (few-shares 2 (a .y % 4) (omega arith) (at .down))),
+    )
 
 rem-texel-in : tie.Need-rem-texel-in
-rem-texel-in c = wide-as (c .before .before .before .before .before .before .before .before .before .before .before .before .before .args .g .is2bpp) (c .before .before .before .before .before .before .before .before .block-width .ensures)
+rem-texel-in c =
+    wide-as (c .before .before .before .before .before .before .before .before .before .before .before .before .before .args .g .is2bpp)
+    (c .before .before .before .before .before .before .before .before .block-width .ensures)
 
 texel-in-requires : tie.Need-texel-in-requires
 texel-in-requires c κs =

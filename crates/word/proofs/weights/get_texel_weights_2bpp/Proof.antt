@@ -61,7 +61,9 @@ returns : tie.Need-returns Inv-loop μ-loop
 returns c =
     let a = c .before .before .before .before .before .before .before .before .before in
     let e : length (a .args .info .weight) ≡ 32 = search (needs, a .good .1 .0 .1 .1 .1 .1 .0) in
-    ends (now (a .args .«data»)) (a .args .info) (c .before .before .before .before .before .before .before .mode .ensures) (c .before .before .before .before .before .before .modulation .ensures) (c .fill-2bpp .ensures) (filled-end 32 (c .before .before .loop .inv .1) (omega arith) e)
+    ends (now (a .args .«data»)) (a .args .info) (c .before .before .before .before .before .before .before .mode .ensures)
+    (c .before .before .before .before .before .before .modulation .ensures) (c .fill-2bpp .ensures)
+    (filled-end 32 (c .before .before .loop .inv .1) (omega arith) e)
 
 pub get-texel-weights-2bpp-spec : {M : Type 1} → statement M
 get-texel-weights-2bpp-spec =

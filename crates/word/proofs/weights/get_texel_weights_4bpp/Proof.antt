@@ -67,13 +67,16 @@ loop-again c =
     let w = c .before .before .before .before .before in
     let l = c .before .before .before .before .loop in
     let e : length (a .args .info .weight) ≡ 32 = search (needs, a .good .1 .0 .1 .1 .1 .1 .0) in
-    let v = by-table (c .before .before .before .before .before .before .before .before .before .before .mode .result) (c .before .before .before .before .before .before .before .before .before .modulation .result) (l .i) (w .weights-of .ensures) (c .before .weight-4bpp .ensures) in
+    let v = by-table (c .before .before .before .before .before .before .before .before .before .before .mode .result)
+    (c .before .before .before .before .before .before .before .before .before .modulation .result) (l .i) (w .weights-of .ensures)
+    (c .before .weight-4bpp .ensures) in
     (omega arith, filled-more (l .inv .1) v (omega arith), flagged-more (l .inv .2) (c .punch-4bpp .ensures))
 
 returns : tie.Need-returns Inv-loop μ-loop
 returns c =
     let a = c .before .before .before .before .before .before .before .before .before in
-    ends (now (a .args .«data»)) (a .args .info) (omega arith) (c .before .before .before .before .before .before .before .mode .ensures) (c .before .before .before .before .before .before .modulation .ensures) (c .before .loop .inv .1) (c .before .loop .inv .2)
+    ends (now (a .args .«data»)) (a .args .info) (omega arith) (c .before .before .before .before .before .before .before .mode .ensures)
+    (c .before .before .before .before .before .before .modulation .ensures) (c .before .loop .inv .1) (c .before .loop .inv .2)
 
 pub get-texel-weights-4bpp-spec : {M : Type 1} → statement M
 get-texel-weights-4bpp-spec =

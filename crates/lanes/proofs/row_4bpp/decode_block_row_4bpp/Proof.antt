@@ -1,0 +1,198 @@
+-- `lanes::row_4bpp::decode_block_row_4bpp` meets its contract. The loop keeps the window before block bx and the blocks laid so far. Assumes nothing.
+use mathlib.Core.Path.{refl}
+use Prim.Native.Nat.{_*_, _-_, _≤_, _<_}
+use native.Mathlib.Omega.{arith}
+use denote.Ref.{now}
+use lib.ListN.{length}
+use Rattle.grid.proofs.Words.{exact}
+use Rattle.paint.proofs.Sheets.{fits-more, no-blocks, all-blocks}
+use Rattle.paint.specs.Sheet.{Fits, largest}
+use Rattle.lanes.specs.Block4bpp.{inBlock4bpp}
+use Rattle.lanes.proofs.Placing.{RowAt, first-column, placed-column, part-seen, in-column, covers}
+use Rattle.lanes.proofs.Sliding.{Window4bpp, slide, column-seen, codes-seen, texels-4bpp, rowTexel, RowSoFar, part-fits, block-laid}
+use Rattle.lanes.proofs.row_4bpp.decode_block_row_4bpp.Statement.{statement}
+use Rattle.lanes.proofs.row_4bpp.decode_block_row_4bpp.Tie as tie
+
+abbrev Inv-loop : tie.InvT-loop
+Inv-loop «data» g by row image₀ weights keeps addresses last left₀ first own₀ codes₀ bx₀ bx-end image left own codes bx =
+    (bx ≤ bx-end) × Window4bpp g by «data» bx left own codes × RowSoFar g by row 4 «data» image₀ bx image
+
+abbrev μ-loop : tie.MeasureT-loop
+μ-loop «data» g by row image₀ weights keeps addresses last left₀ first own₀ codes₀ bx₀ bx-end image left own codes bx = bx-end - bx
+
+-- the row's addresses, as they were made and in the loop
+the-row : (r : tie.After-row-addresses Inv-loop μ-loop) → let a = r .before .before .before .args in
+    RowAt (a .g) (a .by) (length (now (a .«data»))) (r .row-addresses .result)
+the-row r = record { words = r .before .before .before .pre .0 .words; is = r .row-addresses .ensures }
+
+abbrev addressed : tie.At-loop Inv-loop μ-loop → tie.After-row-addresses Inv-loop μ-loop
+addressed l = l .before .before .before .before .before .before .before .before
+
+abbrev outset : tie.At-loop Inv-loop μ-loop → tie.Start Inv-loop μ-loop
+outset l = addressed l .before .before .before
+
+-- the sheet fits the machine's numbers, and a block of the loop starts in it
+in-machine : (s : tie.Start Inv-loop μ-loop) → Fits (s .args .row) largest
+in-machine s = fits-more (s .pre .0 .fits) (omega arith)
+
+starts : (t : tie.In-loop Inv-loop μ-loop) → let row = outset (t .before) .args .row in Fits row largest × (t .before .loop .bx * 4 < row .width)
+starts t = (in-machine (outset (t .before)), omega (arith, t .before .before .num-blocks-x .ensures, t .loop-test .taken))
+
+-- which is a block of the grid
+in-grid : (t : tie.In-loop Inv-loop μ-loop) → t .before .loop .bx < outset (t .before) .args .g .across
+in-grid t =
+    let p = outset (t .before) .pre in
+    covers (p .0) (p .1) (t .before .before .num-blocks-x .ensures) (t .loop-test .taken)
+
+row-addresses-requires : tie.Need-row-addresses-requires Inv-loop μ-loop
+row-addresses-requires c κs = let p = c .before .before .pre .0 in (exact (p .words), p .down)
+
+previous-block-requires : tie.Need-previous-block-requires Inv-loop μ-loop
+previous-block-requires c κs = the-row c .words .power-across
+
+part-across-requires : tie.Need-part-across-requires Inv-loop μ-loop
+part-across-requires c κs = placed-column (the-row (c .before)) 0 0 (c .previous-block .ensures)
+
+column-at-requires : tie.Need-column-at-requires Inv-loop μ-loop
+column-at-requires c κs = let r = the-row (c .before .before) in in-column r (part-seen r 0 0 (c .before .previous-block .ensures) (c .part-across .ensures))
+
+part-across-requires-2 : tie.Need-part-across-requires-2 Inv-loop μ-loop
+part-across-requires-2 c κs = let r = the-row (c .before .before .before) in placed-column r 0 1 (first-column (r .words))
+
+column-at-requires-2 : tie.Need-column-at-requires-2 Inv-loop μ-loop
+column-at-requires-2 c κs =
+    let r = the-row (c .before .before .before .before) in
+    in-column r (part-seen r 0 1 (first-column (r .words)) (c .part-across2 .ensures))
+
+codes-at-requires : tie.Need-codes-at-requires Inv-loop μ-loop
+codes-at-requires c κs = column-at-requires-2 (c .before) κs
+
+num-blocks-x-requires : tie.Need-num-blocks-x-requires Inv-loop μ-loop
+num-blocks-x-requires c κs = tt
+
+loop-holds : tie.Need-loop-holds Inv-loop μ-loop
+loop-holds c =
+    let codes = c .before in
+    let own = codes .before in
+    let first = own .before in
+    let left = first .before in
+    let last = left .before in
+    let x = last .before in
+    let r = the-row (x .before) in
+    let first-part = part-seen r 0 1 (first-column (r .words)) (first .part-across2 .ensures) in
+    let a = x .before .before .before .before .args in
+    let d = now (a .«data») in (
+      omega arith,
+      record {
+        left = column-seen r (part-seen r 0 0 (x .previous-block .ensures) (last .part-across .ensures)) d (left .column-at .ensures);
+        own = column-seen r first-part d (own .column-at2 .ensures);
+        codes = codes-seen r first-part d (codes .codes-at .ensures);
+      },
+      no-blocks (a .row) 4 (rowTexel (a .g) (a .by) d) (now (a .image)),
+    )
+
+next-column-requires : tie.Need-next-column-requires Inv-loop μ-loop
+next-column-requires c κs = in-grid c
+
+part-across-requires-3 : tie.Need-part-across-requires-3 Inv-loop μ-loop
+part-across-requires-3 c κs = let l = c .before .before in placed-column (the-row (addressed l)) (l .loop .bx) 2 (c .next-column .ensures)
+
+column-at-requires-3 : tie.Need-column-at-requires-3 Inv-loop μ-loop
+column-at-requires-3 c κs =
+    let l = c .before .before .before in
+    let r = the-row (addressed l) in
+    in-column r (part-seen r (l .loop .bx) 2 (c .before .next-column .ensures) (c .part-across3 .ensures))
+
+codes-at-requires-2 : tie.Need-codes-at-requires-2 Inv-loop μ-loop
+codes-at-requires-2 c κs = column-at-requires-3 (c .before) κs
+
+mul-columns-from : tie.Need-mul-columns-from Inv-loop μ-loop
+mul-columns-from c = omega (arith, starts (c .before .before .before .before))
+
+columns-from-requires : tie.Need-columns-from-requires Inv-loop μ-loop
+columns-from-requires c κs = starts (c .before .before .before .before)
+
+lay-block-4bpp-requires : tie.Need-lay-block-4bpp-requires Inv-loop μ-loop
+lay-block-4bpp-requires c κs =
+    let sheet = c .before .before .before in
+    let right = sheet .before .before in
+    let test = right .before .before .before in
+    let l = test .before in
+    let window = l .loop .inv .1 in
+    let part = part-fits (outset l .pre .0) 4 (l .loop .bx) (starts test .1) (sheet .columns-from .ensures) in (
+      (refl, refl),
+      (
+        (window .left .good, window .own .good, right .column-at3 .ensures .1, window .codes .good),
+        (rw (l .loop .inv .2 .len) (part .0), part .1, part .2),
+      ),
+    )
+
+add-bx : tie.Need-add-bx Inv-loop μ-loop
+add-bx c = omega (arith, starts (c .before .before .before .before .before .before .before .before .before .before .before))
+
+loop-less : tie.Need-loop-less Inv-loop μ-loop
+loop-less c = omega (arith, c .before .before .before .before .before .before .before .before .before .before .before .loop-test .taken)
+
+loop-again : tie.Need-loop-again Inv-loop μ-loop
+loop-again c =
+    let sheet = c .before .before .before .before .before .before in
+    let codes = sheet .before in
+    let column = codes .before in
+    let part = column .before in
+    let x = part .before in
+    let test = x .before in
+    let l = test .before in
+    let r = the-row (addressed l) in
+    let s = outset l in
+    let a = s .args in
+    let d = now (a .«data») in
+    let bx = l .loop .bx in
+    let window = l .loop .inv .1 in
+    let next-part = part-seen r bx 2 (x .next-column .ensures) (part .part-across3 .ensures) in
+    let right = column-seen r next-part d (column .column-at3 .ensures) in
+    let next = codes-seen r next-part d (codes .codes-at2 .ensures) in
+    let block = inBlock4bpp (l .loop .left) (l .loop .own) (column .column-at3 .result) (l .loop .codes) in
+    let texels = texels-4bpp (a .g) (a .by) bx d right (s .pre .1) window in (
+      omega (arith, test .loop-test .taken),
+      record { left = slide 0 (window .own); own = slide 1 right; codes = slide 1 next },
+      block-laid (s .pre .0) 4 bx (starts test .1) (sheet .columns-from .ensures) d (now (a .image)) block refl (c .before .before .lay-block-4bpp .ensures)
+          texels (l .loop .inv .2),
+    )
+
+same-length : tie.Need-same-length Inv-loop μ-loop
+same-length c = c .before .loop .inv .2 .len
+
+returns : tie.Need-returns Inv-loop μ-loop
+returns c =
+    let l = c .before in
+    let a = outset l .args in
+    all-blocks (a .row) 4 (rowTexel (a .g) (a .by) (now (a .«data»))) (now (a .image)) (l .loop .bx)
+    (omega (arith, c .loop-test .left, l .before .num-blocks-x .ensures)) (l .loop .inv .2)
+
+pub decode-block-row-4bpp-spec : {M : Type 1} → statement M
+decode-block-row-4bpp-spec =
+    tie.close
+    (tie.spec
+    Inv-loop
+    μ-loop
+    row-addresses-requires
+    previous-block-requires
+    part-across-requires
+    column-at-requires
+    part-across-requires-2
+    column-at-requires-2
+    codes-at-requires
+    num-blocks-x-requires
+    loop-holds
+    next-column-requires
+    part-across-requires-3
+    column-at-requires-3
+    codes-at-requires-2
+    mul-columns-from
+    columns-from-requires
+    lay-block-4bpp-requires
+    add-bx
+    loop-less
+    loop-again
+    same-length
+    returns)

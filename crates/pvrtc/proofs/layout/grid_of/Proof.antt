@@ -1,0 +1,16 @@
+-- `pvrtc::layout::grid_of` meets its contract. Assumes nothing.
+use borrow.Author.Needs.{needs}
+use Rattle.pvrtc.proofs.layout.grid_of.Statement.{statement}
+use Rattle.pvrtc.proofs.layout.grid_of.Tie as tie
+
+num-blocks-x-requires : tie.Need-num-blocks-x-requires
+num-blocks-x-requires c κs = search needs
+
+num-blocks-y-requires : tie.Need-num-blocks-y-requires
+num-blocks-y-requires c κs = search needs
+
+returns : tie.Need-returns
+returns c = rw (c .before .num-blocks-x .ensures, c .num-blocks-y .ensures)
+
+pub grid-of-spec : {M : Type 1} → statement M
+grid-of-spec = tie.close (tie.spec num-blocks-x-requires num-blocks-y-requires returns)
