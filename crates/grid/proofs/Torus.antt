@@ -28,6 +28,11 @@ pub next-round : (g q : ℕ) → q + 1 ≡ g → beside g q 2 ≡ 0
 unfolding beside
 next-round g q e = ap (λ (n : ℕ). n % g) (omega arith) ∙ add-mod-right g g ∙ mod-self g
 
+-- the block before the first one
+pub last-before : (g : ℕ) → 0 < g → beside g 0 0 ≡ g - 1
+unfolding beside
+last-before g h = ap (λ (n : ℕ). n % g) (omega arith) ∙ mod-eq-of-lt (omega arith)
+
 -- the block before the block after a block
 pub back-again : (g q : ℕ) → q < g → beside g (beside g q 2) 0 ≡ q
 unfolding beside

@@ -8,7 +8,7 @@ use lib.Dec.{eqb, eqb→eq}
 use Rattle.facts.proofs.Finite.{below}
 use Rattle.grid.proofs.Address.{address-small}
 use Rattle.grid.proofs.Spreading.{by-table}
-use Rattle.grid.proofs.Torus.{beside-own}
+use Rattle.grid.proofs.Torus.{beside-own, last-before}
 use Rattle.grid.proofs.Words.{some-across, some-down, beside-in, placed-in, located}
 use Rattle.grid.specs.declared.Grid.{Grid}
 use Rattle.grid.specs.Grid.{blockWidth, blocks, log2, address, blockAddress, beside, spreadBits, Placed}
@@ -64,6 +64,10 @@ placed-row s by k em ey = rw ey (placed-in s (record { across = some-across s; d
 -- column 0 is block 0's own
 pub first-column : {g : Grid} {len : ℕ} → Stands g len → 0 ≡ beside (g .across) 0 1
 first-column {g} s = sym (beside-own (g .across) 0 (some-across s))
+
+-- and the last column, before the first one
+pub last-column : {g : Grid} {len : ℕ} → Stands g len → g .across - 1 ≡ beside (g .across) 0 0
+last-column {g} s = sym (last-before (g .across) (some-across s))
 
 -- v is what is read of column k = 0, 1, 2 beside block bx, round the torus, and is good
 pub record Seen {A : Type 0} (Good : A → Type 0) (read : ℕ → A) (side bx k : ℕ) (v : A) : Type 0 where

@@ -84,7 +84,7 @@ pub fn decode_block_row_2bpp(data: &[u8], g: Grid, by: usize, row: Sheet, image:
     ensures { λ _. ⌜ now (image .exit) ≡ withBlockRow g by row (now («data» .entry)) (now (image .entry)) ⌝ }
 {
     let addresses = row_addresses(g, by);
-    let last = part_across(grid::previous_block(0, g.across), addresses.smaller);
+    let last = part_across(g.across - 1, addresses.smaller);
     let mut left = column_at(data, addresses, last);
     let mut left_weights = weights_at(data, addresses, last);
     let mut part = part_across(0, addresses.smaller);

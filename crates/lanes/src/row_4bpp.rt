@@ -161,7 +161,7 @@ pub fn decode_block_row_4bpp(data: &[u8], g: Grid, by: usize, row: Sheet, image:
     let weights = WEIGHTS;
     let keeps = KEEPS;
     let addresses = row_addresses(g, by);
-    let last = part_across(grid::previous_block(0, g.across), addresses.smaller);
+    let last = part_across(g.across - 1, addresses.smaller);
     let mut left = column_at(data, addresses, last);
     let first = part_across(0, addresses.smaller);
     let mut own = column_at(data, addresses, first);

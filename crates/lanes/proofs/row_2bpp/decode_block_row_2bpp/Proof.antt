@@ -4,11 +4,11 @@ use Prim.Native.Nat.{_*_, _-_, _≤_, _<_}
 use native.Mathlib.Omega.{arith}
 use denote.Ref.{now}
 use lib.ListN.{length}
-use Rattle.grid.proofs.Words.{exact}
+use Rattle.grid.proofs.Words.{exact, some-across}
 use Rattle.paint.proofs.Sheets.{fits-more, no-blocks, all-blocks}
 use Rattle.paint.specs.Sheet.{Fits, largest}
 use Rattle.lanes.specs.Block2bpp.{inBlock2bpp}
-use Rattle.lanes.proofs.Placing.{RowAt, first-column, placed-column, part-seen, in-column, covers}
+use Rattle.lanes.proofs.Placing.{RowAt, first-column, last-column, placed-column, part-seen, in-column, covers}
 use Rattle.lanes.proofs.Sliding.{Window2bpp, slide, column-seen, weights-seen, rule-of, texels-2bpp, rowTexel, RowSoFar}
 use Rattle.lanes.proofs.Sliding.{part-fits, block-laid}
 use Rattle.lanes.proofs.row_2bpp.decode_block_row_2bpp.Statement.{statement}
@@ -49,14 +49,14 @@ in-grid t =
 row-addresses-requires : tie.Need-row-addresses-requires Inv-loop μ-loop
 row-addresses-requires c κs = let p = c .before .before .pre .0 in (exact (p .words), p .down)
 
-previous-block-requires : tie.Need-previous-block-requires Inv-loop μ-loop
-previous-block-requires c κs = the-row c .words .power-across
+sub-part-across : tie.Need-sub-part-across Inv-loop μ-loop
+sub-part-across c = some-across (the-row (c .before) .words)
 
 part-across-requires : tie.Need-part-across-requires Inv-loop μ-loop
-part-across-requires c κs = placed-column (the-row (c .before)) 0 0 (c .previous-block .ensures)
+part-across-requires c κs = let r = the-row (c .before) in placed-column r 0 0 (last-column (r .words))
 
 column-at-requires : tie.Need-column-at-requires Inv-loop μ-loop
-column-at-requires c κs = let r = the-row (c .before .before) in in-column r (part-seen r 0 0 (c .before .previous-block .ensures) (c .part-across .ensures))
+column-at-requires c κs = let r = the-row (c .before .before) in in-column r (part-seen r 0 0 (last-column (r .words)) (c .part-across .ensures))
 
 weights-at-requires : tie.Need-weights-at-requires Inv-loop μ-loop
 weights-at-requires c κs = column-at-requires (c .before) κs
@@ -85,7 +85,7 @@ loop-holds c =
     let last = left .before in
     let x = last .before in
     let r = the-row (x .before) in
-    let last-part = part-seen r 0 0 (x .previous-block .ensures) (last .part-across .ensures) in
+    let last-part = part-seen r 0 0 (last-column (r .words)) (last .part-across .ensures) in
     let first-part = part-seen r 0 1 (first-column (r .words)) (first .part-across2 .ensures) in
     let a = x .before .before .before .before .args in
     let d = now (a .«data») in (
@@ -196,7 +196,7 @@ decode-block-row-2bpp-spec =
     Inv-loop
     μ-loop
     row-addresses-requires
-    previous-block-requires
+    sub-part-across
     part-across-requires
     column-at-requires
     weights-at-requires

@@ -4,11 +4,11 @@ use Prim.Native.Nat.{_*_, _-_, _≤_, _<_}
 use native.Mathlib.Omega.{arith}
 use denote.Ref.{now}
 use lib.ListN.{length}
-use Rattle.grid.proofs.Words.{exact}
+use Rattle.grid.proofs.Words.{exact, some-across}
 use Rattle.paint.proofs.Sheets.{fits-more, no-blocks, all-blocks}
 use Rattle.paint.specs.Sheet.{Fits, largest}
 use Rattle.lanes.specs.Block4bpp.{inBlock4bpp}
-use Rattle.lanes.proofs.Placing.{RowAt, first-column, placed-column, part-seen, in-column, covers}
+use Rattle.lanes.proofs.Placing.{RowAt, first-column, last-column, placed-column, part-seen, in-column, covers}
 use Rattle.lanes.proofs.Sliding.{Window4bpp, slide, column-seen, codes-seen, texels-4bpp, rowTexel, RowSoFar, part-fits, block-laid}
 use Rattle.lanes.proofs.row_4bpp.decode_block_row_4bpp.Statement.{statement}
 use Rattle.lanes.proofs.row_4bpp.decode_block_row_4bpp.Tie as tie
@@ -47,14 +47,14 @@ in-grid t =
 row-addresses-requires : tie.Need-row-addresses-requires Inv-loop μ-loop
 row-addresses-requires c κs = let p = c .before .before .pre .0 in (exact (p .words), p .down)
 
-previous-block-requires : tie.Need-previous-block-requires Inv-loop μ-loop
-previous-block-requires c κs = the-row c .words .power-across
+sub-part-across : tie.Need-sub-part-across Inv-loop μ-loop
+sub-part-across c = some-across (the-row (c .before) .words)
 
 part-across-requires : tie.Need-part-across-requires Inv-loop μ-loop
-part-across-requires c κs = placed-column (the-row (c .before)) 0 0 (c .previous-block .ensures)
+part-across-requires c κs = let r = the-row (c .before) in placed-column r 0 0 (last-column (r .words))
 
 column-at-requires : tie.Need-column-at-requires Inv-loop μ-loop
-column-at-requires c κs = let r = the-row (c .before .before) in in-column r (part-seen r 0 0 (c .before .previous-block .ensures) (c .part-across .ensures))
+column-at-requires c κs = let r = the-row (c .before .before) in in-column r (part-seen r 0 0 (last-column (r .words)) (c .part-across .ensures))
 
 part-across-requires-2 : tie.Need-part-across-requires-2 Inv-loop μ-loop
 part-across-requires-2 c κs = let r = the-row (c .before .before .before) in placed-column r 0 1 (first-column (r .words))
@@ -84,7 +84,7 @@ loop-holds c =
     let d = now (a .«data») in (
       omega arith,
       record {
-        left = column-seen r (part-seen r 0 0 (x .previous-block .ensures) (last .part-across .ensures)) d (left .column-at .ensures);
+        left = column-seen r (part-seen r 0 0 (last-column (r .words)) (last .part-across .ensures)) d (left .column-at .ensures);
         own = column-seen r first-part d (own .column-at2 .ensures);
         codes = codes-seen r first-part d (codes .codes-at .ensures);
       },
@@ -176,7 +176,7 @@ decode-block-row-4bpp-spec =
     Inv-loop
     μ-loop
     row-addresses-requires
-    previous-block-requires
+    sub-part-across
     part-across-requires
     column-at-requires
     part-across-requires-2
