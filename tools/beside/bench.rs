@@ -1,7 +1,8 @@
-// Times the calls of include/plate.h against the Rust original: one process, the same input, CPU time, the best of seven.
+// Times the calls of include/plate.h against the Rust original: one process, the same input, CPU time, the best of 35.
 //
 // A time is that of a call divided by its texels, in nanoseconds; a ratio is the original's time divided by ours, so above 1 ours is
-// faster. Every picture that is timed is first decoded by both and compared.
+// faster. Every picture that is timed is first decoded by both and compared. Built with `--cfg before`, it times another build of our
+// library as well, in turn with the two: then the last column is our time divided by that build's, so above 1 ours is slower.
 
 extern crate color;
 
@@ -22,8 +23,10 @@ fn cpu_time() -> f64 {
     time[0] as f64 * 1e9 + time[1] as f64
 }
 
-// The time of one turn of `work`, over enough turns to make about 20 ms.
-fn one_time(turns: usize, work: &mut dyn FnMut()) -> f64 {
+type Work<'a> = Box<dyn FnMut() + 'a>;
+
+// The time of one of so many turns of a work.
+fn one_time(turns: usize, work: &mut Work) -> f64 {
     let start = cpu_time();
     for _ in 0..turns {
         work();
@@ -31,17 +34,49 @@ fn one_time(turns: usize, work: &mut dyn FnMut()) -> f64 {
     (cpu_time() - start) / turns as f64
 }
 
-// The best times of two works, taken in turn seven times.
-fn best_of_seven(a: &mut dyn FnMut(), b: &mut dyn FnMut()) -> (f64, f64) {
-    let turns = |work: &mut dyn FnMut()| ((2e7 / one_time(1, work).max(1.0)) as usize).clamp(1, 1_000_000);
-    let (turns_a, turns_b) = (turns(a), turns(b));
-    let mut best = (f64::MAX, f64::MAX);
-    for _ in 0..7 {
-        best.0 = best.0.min(one_time(turns_a, a));
-        best.1 = best.1.min(one_time(turns_b, b));
+// How many turns of a work take 4 ms or more.
+fn enough_turns(work: &mut Work) -> usize {
+    let mut turns = 1;
+    while one_time(turns, work) * (turns as f64) < 4e6 {
+        turns *= 2;
+    }
+    turns
+}
+
+// The best times of works, taken in turn 35 times: short times and many of them, so that a busy moment of the machine falls on all alike.
+// Before each a work runs as long untimed, so that none finds the caches as another one left them.
+fn best_times(mut works: Vec<Work>) -> Vec<f64> {
+    let turns: Vec<usize> = works.iter_mut().map(enough_turns).collect();
+    let mut best = vec![f64::MAX; works.len()];
+    for _ in 0..35 {
+        for (i, work) in works.iter_mut().enumerate() {
+            one_time(turns[i], work);
+            best[i] = best[i].min(one_time(turns[i], work));
+        }
     }
     best
 }
+
+// The calls of one build of our library.
+struct Library {
+    picture: unsafe extern "C" fn(*const u8, usize, u64, u64, u32, *mut u32, usize) -> u64,
+    row: unsafe extern "C" fn(*const u8, usize, u64, u64, u32, u64, *mut u32, usize) -> u64,
+    texel: unsafe extern "C" fn(*const u8, usize, u64, u64, u32, u64, u64) -> u64,
+}
+
+#[cfg(before)]
+extern "C" {
+    fn before_plate_texel(data: *const u8, len: usize, width: u64, height: u64, depth: u32, x: u64, y: u64) -> u64;
+    fn before_plate_row(data: *const u8, len: usize, width: u64, height: u64, depth: u32, y: u64, row: *mut u32, room: usize) -> u64;
+    fn before_plate_picture(data: *const u8, len: usize, width: u64, height: u64, depth: u32, image: *mut u32, room: usize) -> u64;
+}
+
+// Ours, and the other build if there is one.
+static LIBRARIES: &[Library] = &[
+    Library { picture: plate_picture, row: plate_row, texel: plate_texel },
+    #[cfg(before)]
+    Library { picture: before_plate_picture, row: before_plate_row, texel: before_plate_texel },
+];
 
 // Words as drawn.
 fn random_words(blocks: usize) -> Vec<u8> {
@@ -72,28 +107,37 @@ impl Picture<'_> {
         original::decode_pvrtc(self.data, self.width, self.height, image, self.is2bpp).expect("the original refuses");
     }
 
-    fn ours(&self, image: &mut [u32]) {
+    fn whole(&self, library: &Library, image: &mut [u32]) {
         let (w, h) = (self.width as u64, self.height as u64);
-        let refused = unsafe { plate_picture(self.data.as_ptr(), self.data.len(), w, h, self.is2bpp as u32, image.as_mut_ptr(), image.len()) };
+        let refused = unsafe { (library.picture)(self.data.as_ptr(), self.data.len(), w, h, self.is2bpp as u32, image.as_mut_ptr(), image.len()) };
         assert_eq!(refused, 0);
     }
 
-    fn row(&self, y: usize, row: &mut [u32]) {
+    fn row(&self, library: &Library, y: usize, row: &mut [u32]) {
         let (w, h) = (self.width as u64, self.height as u64);
-        let refused = unsafe { plate_row(self.data.as_ptr(), self.data.len(), w, h, self.is2bpp as u32, y as u64, row.as_mut_ptr(), row.len()) };
+        let refused = unsafe { (library.row)(self.data.as_ptr(), self.data.len(), w, h, self.is2bpp as u32, y as u64, row.as_mut_ptr(), row.len()) };
         assert_eq!(refused, 0);
     }
 
-    fn texel(&self, x: usize, y: usize) -> u64 {
+    fn texel(&self, library: &Library, x: usize, y: usize) -> u64 {
         let (w, h) = (self.width as u64, self.height as u64);
-        unsafe { plate_texel(self.data.as_ptr(), self.data.len(), w, h, self.is2bpp as u32, x as u64, y as u64) }
+        unsafe { (library.texel)(self.data.as_ptr(), self.data.len(), w, h, self.is2bpp as u32, x as u64, y as u64) }
+    }
+
+    // The best times of the original's picture and of a work of each library.
+    fn timed<'a>(&'a self, work: impl Fn(&'static Library) -> Work<'a>) -> Vec<f64> {
+        let mut image = vec![0; self.width * self.height];
+        let mut works: Vec<Work> = vec![Box::new(move || self.original(black_box(&mut image)))];
+        works.extend(LIBRARIES.iter().map(work));
+        best_times(works)
     }
 }
 
 fn main() {
     println!();
-    println!("| call | bits | size | words | original, ns a texel | ours, ns a texel | ratio |");
-    println!("|---|---|---|---|---|---|---|");
+    let before = LIBRARIES.len() > 1;
+    println!("| call | bits | size | words | original, ns a texel | ours, ns a texel | ratio |{}", if before { " before | ratio | ours / before |" } else { "" });
+    println!("|---|---|---|---|---|---|---|{}", if before { "---|---|---|" } else { "" });
     for is2bpp in [false, true] {
         for (width, height) in [(1024, 1024), (256, 256), (1021, 1023), (8, 8)] {
             for (kind, words) in [("random", random_words as fn(usize) -> Vec<u8>), ("page", page_words)] {
@@ -109,37 +153,57 @@ fn measure(is2bpp: bool, width: usize, height: usize, kind: &str, words: fn(usiz
     let data = words(width.div_ceil(block_width) * height.div_ceil(4));
     let picture = Picture { data: &data, width, height, is2bpp };
     let texels = (width * height) as f64;
-    let (mut theirs, mut image) = (vec![0; width * height], vec![0; width * height]);
-    picture.original(&mut theirs);
-    picture.ours(&mut image);
-    assert!(theirs == image, "the pictures differ: {width} x {height}, {bits} bits, {kind} words");
-    let line = |call: &str, a: f64, b: f64| println!("| {call} | {bits} | {width} × {height} | {kind} | {a:.2} | {b:.2} | {:.2} |", a / b);
+    let mut image = vec![0; width * height];
+    picture.original(&mut image);
+    let line = |call: &str, times: &[f64], of_ours: f64| {
+        print!("| {call} | {bits} | {width} × {height} | {kind} | {:.2} |", times[0] / texels);
+        for &time in &times[1..] {
+            print!(" {:.2} | {:.2} |", time / of_ours, times[0] / texels / (time / of_ours));
+        }
+        println!("{}", times.get(2).map_or(String::new(), |before| format!(" {:.3} |", times[1] / before)));
+    };
 
-    let (a, b) = best_of_seven(&mut || picture.original(black_box(&mut theirs)), &mut || picture.ours(black_box(&mut image)));
-    line("picture", a / texels, b / texels);
+    for library in LIBRARIES {
+        let mut whole = vec![0; width * height];
+        picture.whole(library, &mut whole);
+        assert!(whole == image, "the pictures differ: {width} x {height}, {bits} bits, {kind} words");
+    }
+    let times = picture.timed(|library| {
+        let (mut whole, picture) = (vec![0; width * height], &picture);
+        Box::new(move || picture.whole(library, black_box(&mut whole)))
+    });
+    line("picture", &times, texels);
     if width != 1024 {
         return;
     }
-    let mut rows = vec![0; width];
-    for y in 0..height {
-        picture.row(y, &mut rows);
-        assert!(rows == theirs[y * width..][..width], "row {y} differs");
+    for library in LIBRARIES {
+        let mut row = vec![0; width];
+        for y in 0..height {
+            picture.row(library, y, &mut row);
+            assert!(row == image[y * width..][..width], "row {y} differs");
+        }
     }
-    let mut y = 0;
-    let (a, b) = best_of_seven(&mut || picture.original(black_box(&mut theirs)), &mut || {
-        y = (y + 1) % height;
-        picture.row(y, black_box(&mut rows))
+    let times = picture.timed(|library| {
+        let (mut y, mut row, picture) = (0, vec![0; width], &picture);
+        Box::new(move || {
+            y = (y + 1) % height;
+            picture.row(library, y, black_box(&mut row))
+        })
     });
-    line("row", a / texels, b / width as f64);
+    line("row", &times, width as f64);
     let mut state = 1;
     let places: Vec<usize> = (0..262_144).map(|_| draw(&mut state) as usize % (width * height)).collect();
-    for &at in &places {
-        assert_eq!(picture.texel(at % width, at / width), image[at] as u64, "texel {at} differs");
+    for library in LIBRARIES {
+        for &at in &places {
+            assert_eq!(picture.texel(library, at % width, at / width), image[at] as u64, "texel {at} differs");
+        }
     }
-    let mut turn = 0;
-    let (a, b) = best_of_seven(&mut || picture.original(black_box(&mut theirs)), &mut || {
-        turn = (turn + 1) % places.len();
-        black_box(picture.texel(places[turn] % width, places[turn] / width));
+    let times = picture.timed(|library| {
+        let (mut turn, places, picture) = (0, &places, &picture);
+        Box::new(move || {
+            turn = (turn + 1) % places.len();
+            black_box(picture.texel(library, places[turn] % width, places[turn] / width));
+        })
     });
-    line("texel", a / texels, b);
+    line("texel", &times, 1.0);
 }

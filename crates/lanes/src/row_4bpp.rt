@@ -61,7 +61,7 @@ fn texel_4bpp(weights: &[u64; 8], keeps: &[u64; 8], a: u64, b: u64, place: usize
 }
 
 // The place in the tables of the code at the low end of the modulation.
-fn place_of(start: u64, modulation: u64) -> usize
+fn code_place(start: u64, modulation: u64) -> usize
     requires { ⌜ start ≤ 4 ⌝ }
     ensures { λ r. ⌜ (r ≡ start + modulation % 4) × (r < 8) ⌝ }
 {
@@ -86,7 +86,7 @@ fn lay_row_4bpp(
     let mut a = 2 * sums.left_a + 2 * sums.own_a;
     let mut b = 2 * sums.left_b + 2 * sums.own_b;
     for i in 0..4 {
-        let place = place_of(codes.start, codes.modulation >> (2 * i));
+        let place = code_place(codes.start, codes.modulation >> (2 * i));
         let texel = texel_4bpp(weights, keeps, a, b, place);
         if i < columns {
             image[at + i] = texel;

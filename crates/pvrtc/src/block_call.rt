@@ -26,6 +26,7 @@ pub fn decode_picture(data: &[u8], p: Picture, image: &mut [u32]) -> Decoded
     Decoded::Done
 }
 
+// The same by the Rust's names and parameters.
 pub fn decode_pvrtc(
     data: &[u8],
     width: usize,

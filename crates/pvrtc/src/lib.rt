@@ -40,7 +40,7 @@ pub enum Texel {
     Refused(Refusal),
 }
 
-// The description of a picture. `picture_of` makes one, and `layout` alone takes one apart.
+// The description of a picture. `picture_of` makes one; its grid and its sheet are `layout`'s.
 pub struct Picture {
     pub width: usize,
     pub height: usize,

@@ -44,21 +44,21 @@ loop-holds c =
     let a = c .before .before .before .before .before .args in
     row-start 2 (a .sums) (inRow4bpp (a .sums) (a .codes)) (now (a .image)) (a .at) (a .columns)
 
-mul-place-of : tie.Need-mul-place-of Inv-loop μ-loop
-mul-place-of c = omega (arith, c .loop-test .taken)
+mul-code-place : tie.Need-mul-code-place Inv-loop μ-loop
+mul-code-place c = omega (arith, c .loop-test .taken)
 
-shr-place-of : tie.Need-shr-place-of Inv-loop μ-loop
-shr-place-of c = omega (arith, c .before .loop-test .taken)
+shr-code-place : tie.Need-shr-code-place Inv-loop μ-loop
+shr-code-place c = omega (arith, c .before .loop-test .taken)
 
-place-of-requires : tie.Need-place-of-requires Inv-loop μ-loop
-place-of-requires c κs = outset (c .before) .pre .1 .0 .1
+code-place-requires : tie.Need-code-place-requires Inv-loop μ-loop
+code-place-requires c κs = outset (c .before) .pre .1 .0 .1
 
 texel-4bpp-requires : tie.Need-texel-4bpp-requires Inv-loop μ-loop
 texel-4bpp-requires c κs =
     let t = c .before .before in
     let p = outset t .pre in
     let fit = small-enough (t .before .loop .inv) (p .1 .0 .0) (omega arith) in
-    (p .0, (fit .0, fit .1, c .place-of .ensures .1))
+    (p .0, (fit .0, fit .1, c .code-place .ensures .1))
 
 add-image : tie.Need-add-image Inv-loop μ-loop
 add-image c = let s = outset (c .before .before .before .before) in search (needs, s .pre .1 .1 .1, s .good .1 .1 .1 .1 .1 .1)
@@ -90,7 +90,7 @@ loop-again c =
     let t = place .before .before in
     let l = t .before .loop in
     let s = outset t in
-    let word = row-texel (s .args .sums) (s .args .codes) (l .i) (texel .texel-4bpp .ensures) (l .inv .sum-a) (l .inv .sum-b) (place .place-of .ensures .0) in
+    let word = row-texel (s .args .sums) (s .args .codes) (l .i) (texel .texel-4bpp .ensures) (l .inv .sum-a) (l .inv .sum-b) (place .code-place .ensures .0) in
     let a = c .before .step .ensures in
     let b = c .step2 .ensures in
     ⊎-elim
@@ -117,9 +117,9 @@ lay-row-4bpp-spec =
     mul-b-2
     add-b
     loop-holds
-    mul-place-of
-    shr-place-of
-    place-of-requires
+    mul-code-place
+    shr-code-place
+    code-place-requires
     texel-4bpp-requires
     add-image
     mul-image
