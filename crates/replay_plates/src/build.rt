@@ -1,7 +1,5 @@
 // A file in memory: a header with chosen fields, and bytes by a rule behind it.
 use crate::tables;
-ghost use mathlib.Core.Path.{_≡_};
-ghost use Prim.Native.Nat.{min};
 
 // Puts v at place i, if there is one.
 fn set(bytes: &mut [u8], i: usize, v: u8) {
@@ -61,10 +59,4 @@ pub fn end(fault: u64) -> usize {
         3 => 83,
         _ => 40000,
     }
-}
-
-pub fn least(a: usize, b: usize) -> usize
-    ensures { λ r. ⌜ r ≡ min a b ⌝ }
-{
-    if a < b { a } else { b }
 }

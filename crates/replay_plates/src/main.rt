@@ -100,5 +100,5 @@ fn print_two(bytes: &mut [u8], first: u64, second: u64) {
     build::bring(bytes, first);
     show::print_name(b"faults", first);
     show::print_name(b" and", second);
-    show::print_converted(bytes, build::least(build::end(first), build::end(second)));
+    show::print_converted(bytes, facts::least(build::end(first), build::end(second)));
 }

@@ -1,5 +1,4 @@
 // Runs a conversion, and prints what it gives.
-use crate::build;
 
 // A checksum of bytes.
 fn sum(bytes: &[u8]) -> u64 {
@@ -31,7 +30,7 @@ pub fn print_converted(bytes: &[u8], len: usize) {
     io::write_all(1, b": ");
     let mut image = [0u32; 131072];
     let mut out = [0u8; 524306];
-    let end = build::least(len, bytes.len());
+    let end = facts::least(len, bytes.len());
     let r = convert::convert(&bytes[..end], &mut image, &mut out);
     print_output(&out[..r]);
 }
