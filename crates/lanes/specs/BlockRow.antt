@@ -1,5 +1,4 @@
 -- A row of blocks: where its words stand, and what laying it asks and leaves. Assumes nothing: these are definitions.
-use mathlib.Core.Path.{_≡_}
 use mathlib.Core.List.{List}
 use Prim.Native.Nat.{ℕ, _+_, _*_, _≤_, _<_, min}
 use Rattle.grid.specs.declared.Grid.{Grid}

@@ -3,7 +3,7 @@ use crate::Column;
 use crate::RowAddresses;
 use crate::colors::summed;
 ghost use mathlib.Core.Path.{_≡_};
-ghost use Prim.Native.Nat.{_+_, _*_, _<_, _≤_};
+ghost use Prim.Native.Nat.{_+_, _*_, _<_};
 ghost use lib.ListN.{length};
 ghost use Rattle.grid.specs.Grid.{log2, address, beside, spreadBits, Placed};
 ghost use Rattle.grid.specs.Words.{wordBytes, Stands};

@@ -6,7 +6,7 @@ use native.Mathlib.Nat.{mul-le-mul-right}
 use native.Mathlib.Omega.{arith}
 use lib.ListN.{length}
 use Rattle.paint.specs.declared.Sheet.{Sheet}
-use Rattle.paint.specs.Sheet.{onSheet, rowsFrom, columnsFrom, Fits, largest}
+use Rattle.paint.specs.Sheet.{onSheet, rowsFrom, columnsFrom, Fits}
 use Rattle.paint.proofs.Laid.{Part, part-none, part-empty, columns-part, rows-part}
 use Rattle.paint.proofs.Painted.{painted-same}
 

@@ -18,7 +18,7 @@ use Rattle.word.proofs.Same.{word-same}
 use Rattle.pvrtc.specs.declared.Call.{Call}
 use Rattle.pvrtc.specs.declared.Picture.{Picture}
 use Rattle.pvrtc.specs.Calls.{refusal}
-use Rattle.pvrtc.specs.Picture.{gridOf, pictureTexel}
+use Rattle.pvrtc.specs.Picture.{pictureTexel}
 use Rattle.pvrtc.specs.Refusals.{need, shortData}
 use Rattle.pvrtc.proofs.Accepted.{accepted, stands}
 

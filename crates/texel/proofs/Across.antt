@@ -5,10 +5,10 @@ use mathlib.Core.List.{List, [], _++_}
 use Prim.Native.Nat.{ℕ, zero, suc, _+_, _-_, _*_, _/_, _%_, _≤_, _<_}
 use native.Mathlib.Nat.{mul-le-mul, not-suc-le-zero, zero-add, add-zero}
 use native.Mathlib.Omega.{arith}
-use lib.ListN.{getD, drop, length, length-append, length-drop}
+use lib.ListN.{getD, drop}
 use Rattle.facts.specs.Sum.{sum}
 use Rattle.facts.specs.Tab.{tab}
-use Rattle.facts.proofs.Tab.{getD-tab, length-tab, tab-front, tab-same, Filled}
+use Rattle.facts.proofs.Tab.{getD-tab, tab-front, tab-same}
 use Rattle.grid.specs.Grid.{half, blockWidth}
 use Rattle.word.specs.Word.{Small}
 use Rattle.word.specs.declared.PVRTCTexelColor.{PVRTCTexelColor}

@@ -1,6 +1,6 @@
 -- One word of a picture's data, as document 01 says it ("One word"). Assumes nothing: these are definitions.
 -- `d` is the list of bytes that starts with the word's eight; a byte past its end counts as 0.
-use mathlib.Core.Bool.{Bool, true, cond, _&&_, _||_}
+use mathlib.Core.Bool.{Bool, cond, _&&_, _||_}
 use mathlib.Core.List.{List, [], _∷_, _++_}
 use Prim.Native.Nat.{ℕ, _+_, _*_, _/_, _%_, _^_, _≤_}
 use lib.Bits.{bitAnd}
