@@ -1,5 +1,6 @@
 pub mod Bits
 pub mod Checks
+pub mod Count
 pub mod Finite
 pub mod Lists
 pub mod Numbers

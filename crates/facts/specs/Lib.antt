@@ -1,5 +1,6 @@
 pub mod Bits
 pub mod Checks
+pub mod Count
 pub mod Finite
 pub mod Sum
 pub mod Tab

@@ -7,7 +7,7 @@ use native.Mathlib.Omega.{arith}
 use lib.Pow.{pow-pos}
 use Rattle.facts.proofs.Numbers.{split}
 use Rattle.facts.proofs.Powers.{pow-split}
-use Rattle.grid.specs.Grid.{beside}
+use Rattle.grid.specs.Grid.{beside, Toroidal}
 
 -- a neighbour is a block of the side
 pub beside-below : (g q k : ℕ) → 0 < g → beside g q k < g
@@ -32,6 +32,23 @@ next-round g q e = ap (λ (n : ℕ). n % g) (omega arith) ∙ add-mod-right g g 
 pub last-before : (g : ℕ) → 0 < g → beside g 0 0 ≡ g - 1
 unfolding beside
 last-before g h = ap (λ (n : ℕ). n % g) (omega arith) ∙ mod-eq-of-lt (omega arith)
+
+-- the block before a block, inside the side
+previous-inside : (g q : ℕ) → q + 1 < g → beside g (q + 1) 0 ≡ q
+unfolding beside
+previous-inside g q h = ap (λ (n : ℕ). n % g) (omega arith) ∙ add-mod-right q g ∙ mod-eq-of-lt (omega arith)
+
+-- document 01's sentences on neighbours
+pub toroidal : (g : ℕ) → 0 < g → Toroidal g
+toroidal g pos =
+    record {
+      before = previous-inside g;
+      before-first = last-before g pos;
+      own = beside-own g;
+      after = next-inside g;
+      after-last = next-round g (g - 1) (omega arith);
+      alone = λ one q k h. let low = beside-below g q k pos in omega arith;
+    }
 
 -- the block before the block after a block
 pub back-again : (g q : ℕ) → q < g → beside g (beside g q 2) 0 ≡ q

@@ -5,6 +5,7 @@ use mathlib.Core.Bool.{Bool, true, false, cond}
 use mathlib.Core.List.{List}
 use Prim.Native.Nat.{ℕ, zero, suc, _+_, _-_, _*_, _/_, _%_, _^_, _≤_, _<_, min}
 use lib.Dec.{ltb, leb, eqb}
+use lib.ListN.{getD}
 use Rattle.facts.specs.Tab.{tab}
 
 -- Half the texels across a block, by which everything that differs with the depth is said.
@@ -94,6 +95,15 @@ pub record Interleaved (gx gy x y : ℕ) : Type 0 where
 unfoldable pub beside : ℕ → ℕ → ℕ → ℕ
 beside g q k = (q + k + g - 1) % g
 
+-- Neighbours are toroidal. With one block across, a block is its own left and right neighbour; likewise down.
+pub record Toroidal (g : ℕ) : Type 0 where
+  pub before : (q : ℕ) → q + 1 < g → beside g (q + 1) 0 ≡ q
+  pub before-first : beside g 0 0 ≡ g - 1
+  pub own : (q : ℕ) → q < g → beside g q 1 ≡ q
+  pub after : (q : ℕ) → q + 1 < g → beside g q 2 ≡ q + 1
+  pub after-last : beside g (g - 1) 2 ≡ 0
+  pub alone : g ≡ 1 → (q k : ℕ) → q < g → beside g q k ≡ q
+
 -- The k low bits of v, bit i moved to bit 2i.
 unfoldable pub spreadBits : ℕ → ℕ → ℕ
 spreadBits zero v = zero
@@ -102,3 +112,14 @@ spreadBits (suc k) v = 4 * spreadBits k (v / 2) + v % 2
 -- The table of spread bytes: entry b is the byte b, spread.
 unfoldable pub spreadTable : List ℕ
 spreadTable = tab (spreadBits 8) 256
+
+-- A number of two bytes, spread by the table: the entry of its low byte, and above it that of its high byte.
+abbrev pub spreadByTable : ℕ → ℕ
+spreadByTable v = getD spreadTable (v % 256) 0 + 65536 * getD spreadTable (v / 256) 0
+
+-- The address of block (x, y) through the table: with m the smaller side, what x and y are below m, spread, y's below x's; above it,
+-- what is left of the longer side.
+abbrev pub tableAddress : ℕ → ℕ → ℕ → ℕ → ℕ
+tableAddress gx gy x y =
+    let m = min gx gy in
+    2 * spreadByTable (x % m) + spreadByTable (y % m) + m * m * (x / m + y / m)

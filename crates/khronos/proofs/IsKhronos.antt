@@ -1,22 +1,29 @@
 -- Every texel of document 01 is the one that Khronos describes. Assumes nothing.
-use mathlib.Core.Path.{_≡_, _∙_}
+use mathlib.Core.Path.{_≡_, sym, ap, ap₂, _∙_}
 use mathlib.Core.Bool.{Bool}
 use mathlib.Core.List.{List}
 use Prim.Native.Nat.{ℕ, _+_, _*_, _/_, _%_, _<_}
 use native.Mathlib.Omega.{arith}
+use lib.ListN.{drop}
 use lib.Seq.{getD-drop}
-use Rattle.grid.specs.Grid.{half, blockWidth, blockAddress}
-use Rattle.grid.proofs.Torus.{beside-own}
+use Rattle.grid.specs.Grid.{half, blockWidth, blocks, beside}
+use Rattle.grid.proofs.Counts.{wide, block-below}
+use Rattle.grid.proofs.Powers.{power-above}
+use Rattle.grid.proofs.Torus.{beside-own, beside-below}
 use Rattle.word.specs.Word.{wordOf}
 use Rattle.word.specs.declared.PVRTCTexelColor.{PVRTCTexelColor}
 use Rattle.word.specs.declared.PVRTCTexelInfo.{PVRTCTexelInfo}
-use Rattle.texel.specs.Texel.{Words, nineSum, blended, filled, ruleAt, punched, about, mixed, texelIn, texelAt}
-use Rattle.khronos.specs.Agrees.{Bytes, Same, Agrees, bytesAt, WordsAgree}
-use Rattle.khronos.specs.Khronos.{Color, word64, imageA, imageB, bilinear, modulation, punchThrough, modulated, khronosTexel}
+use Rattle.texel.specs.Texel.{Words, nineSum, blended, filled, ruleAt, punched, about, mixed, packed, texelIn, texelAt, wordsOf}
+use Rattle.texel.proofs.Same.{look-same}
+use Rattle.texel.proofs.Shares.{half-low}
+use Rattle.khronos.specs.Agrees.{Bytes, Same, Agrees, word32, PictureAgrees}
+use Rattle.khronos.specs.Khronos.{Color, word64, imageA, imageB, bilinear, modulation, punchThrough, modulated, halfBlock, khronosTexel}
+use Rattle.khronos.specs.Storage.{blocksAlong, wordIndex, wordBytesAt}
 use Rattle.khronos.proofs.Images.{image-a, image-b}
 use Rattle.khronos.proofs.Interpolation.{around}
 use Rattle.khronos.proofs.Modulation.{positive, same-weight}
 use Rattle.khronos.proofs.Punched.{is-punched}
+use Rattle.khronos.proofs.Storage.{same-storage}
 use Rattle.khronos.proofs.Widening.{is-eight, is-eight-alpha}
 
 module _ (two : Bool) (gx gy : ℕ) (bytes : ℕ → ℕ → List ℕ) (l : (i j : ℕ) → Bytes (bytes i j)) (x y : ℕ) (lx : x / blockWidth two < gx) (ly : y / 4 < gy) where
@@ -76,13 +83,32 @@ module _ (two : Bool) (gx gy : ℕ) (bytes : ℕ → ℕ → List ℕ) (l : (i j
 pub agrees : (two : Bool) (gx gy : ℕ) (bytes : ℕ → ℕ → List ℕ) → ((i j : ℕ) → Bytes (bytes i j)) → Agrees two gx gy bytes
 agrees = same
 
--- so each texel of a run of bytes
-pub is-khronos : (two : Bool) (gx gy : ℕ) (d : List ℕ) → Bytes d → Agrees two gx gy (bytesAt gx gy d)
-is-khronos two gx gy d l =
-    agrees two gx gy (bytesAt gx gy d) (λ i j k. rw (getD-drop (8 * blockAddress gx gy i j) d k 0) (l (8 * blockAddress gx gy i j + k)))
+-- so each word of a picture, whose words Khronos finds where document 01 does
+pub is-khronos : (two : Bool) (width height : ℕ) (d : List ℕ) → Bytes d → PictureAgrees two width height d
+is-khronos two width height d l px py fx fy x y hx hy =
+    ap packed (look-same (half two) gx gy x y (half-low two) (wordsOf two gx gy d) (λ i j. wordOf two (bytes i j)) (λ i j _ _. found (beside gx (x / blockWidth two) i) (beside gy (y / 4) j)
+    (beside-below gx (x / blockWidth two) i (power-above gx px)) (beside-below gy (y / 4) j (power-above gy py))))
+    ∙ rw (t .red, t .green, t .blue, t .alpha) (ap₂ (λ (g h : ℕ). word32 (khronosTexel two g h (λ i j. word64 (wordBytesAt g h d i j)) x y)) (sym across) (sym down))
+  where
+    gx : ℕ
+    gx = blocks (blockWidth two) width
 
--- and each word
-pub words-agree : (two : Bool) (gx gy : ℕ) (d : List ℕ) → Bytes d → WordsAgree two gx gy d
-words-agree two gx gy d l x y lx ly =
-    let t = is-khronos two gx gy d l x y lx ly in
-    rw (t .red, t .green, t .blue, t .alpha)
+    gy : ℕ
+    gy = blocks 4 height
+
+    across : blocksAlong (2 * halfBlock two) width ≡ gx
+    across = same-storage .count (2 * halfBlock two) width (omega (arith, positive two))
+
+    down : blocksAlong 4 height ≡ gy
+    down = same-storage .count 4 height (omega arith)
+
+    bytes : ℕ → ℕ → List ℕ
+    bytes i j = wordBytesAt gx gy d i j
+
+    found : (i j : ℕ) → i < gx → j < gy → wordsOf two gx gy d i j ≡ wordOf two (bytes i j)
+    found i j hi hj = ap (λ (z : ℕ). wordOf two (drop (8 * z) d)) (sym (same-storage .order gx gy i j px py fx fy hi hj))
+
+    t : Same (texelAt (half two) gx gy (λ i j. wordOf two (bytes i j)) x y) (khronosTexel two gx gy (λ i j. word64 (bytes i j)) x y)
+    t =
+        agrees two gx gy bytes (λ i j k. rw (getD-drop (8 * wordIndex gx gy i j) d k 0) (l (8 * wordIndex gx gy i j + k))) x y
+        (block-below (blockWidth two) width (wide two) x hx) (block-below 4 height (omega arith) y hy)

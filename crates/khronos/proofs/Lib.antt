@@ -5,5 +5,6 @@ pub mod IsKhronos
 pub mod Modulation
 pub mod Punched
 pub mod Round
+pub mod Storage
 pub mod Weights
 pub mod Widening

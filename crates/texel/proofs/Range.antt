@@ -5,25 +5,21 @@ use mathlib.Core.List.{List}
 use Prim.Native.Nat.{ℕ, _+_, _-_, _*_, _/_, _%_, _^_, _≤_, _<_, min, max}
 use native.Mathlib.Nat.{mod-lt}
 use native.Mathlib.Omega.{arith}
-use Rattle.grid.specs.Grid.{half, blockWidth, beside}
+use lib.ListN.{drop}
+use Rattle.grid.specs.Grid.{half, blockWidth, blockAddress, beside}
 use Rattle.word.specs.Word.{wordOf}
 use Rattle.word.proofs.Bounds.{weight-le}
 use Rattle.word.specs.declared.Fill.{Fill}
 use Rattle.word.specs.declared.Fill.the-variants.{Nothing, Around, AboveBelow, LeftRight}
 use Rattle.texel.specs.Texel.{Words, nineSum, blended, Pixel, packed, blend, near, filled, ruleAt, punched, mixed, texelIn, texelAt}
-use Rattle.texel.specs.Inner.{sumsTo, toBytes, pixel, EightBits}
+use Rattle.texel.specs.Between.{Between, colorIn, LiesBetween}
+use Rattle.texel.specs.Inner.{sumsTo, toBytes, EightBits}
 use Rattle.texel.proofs.Blend.{between, bytes, word-below}
 use Rattle.texel.proofs.Nine.{small-side}
 use Rattle.texel.proofs.Shares.{half-low}
 use Rattle.texel.proofs.Sums.{sums-low}
 
--- a pixel whose every channel lies between those of two others; alpha is 0 where it is punched through
-pub record Between (s t p : Pixel) (hole : Bool) : Type 0 where
-  pub r : (min (s .r) (t .r) ≤ p .r) × (p .r ≤ max (s .r) (t .r))
-  pub g : (min (s .g) (t .g) ≤ p .g) × (p .g ≤ max (s .g) (t .g))
-  pub b : (min (s .b) (t .b) ≤ p .b) × (p .b ≤ max (s .b) (t .b))
-  pub a : cond hole (p .a ≡ 0) ((min (s .a) (t .a) ≤ p .a) × (p .a ≤ max (s .a) (t .a)))
-
+-- a blend lies between what is blended
 pub blend-between : (s t : Pixel) (w : ℕ) (hole : Bool) → w ≤ 8 → Between s t (blend s t w hole) hole
 blend-between s t w hole l =
     record {
@@ -61,20 +57,18 @@ module _ (two : Bool) (of : ℕ → ℕ → List ℕ) where
   filled-le LeftRight x y = omega (arith, near-le (x - 1) y, near-le (x + 1) y)
 
   module _ (px py : ℕ) (lx : px < blockWidth two) (ly : py < 4) where
-    -- colour A, or B, at the place: of 8 bits
-    abbrev pub colorAt : (second : Bool) → Pixel
-    colorAt second = pixel (toBytes (half two) (sumsTo (half two) words second px py 9))
-
+    -- colours A and B have 8 bits a channel
     color-bytes : (second : Bool) → EightBits (toBytes (half two) (sumsTo (half two) words second px py 9))
     color-bytes second =
         bytes two (sumsTo (half two) words second px py 9)
         (sums-low (half two) words second px py lx ly 9 (omega arith) (λ k l. small-side two second (of (k % 3) (k / 3))))
 
     -- each channel of a texel lies between A's and B's, alpha where it is not punched through
-    pub texel-between : Between (colorAt false) (colorAt true) (texelIn (half two) words px py) (punched (half two) (words 1 1) px py)
-    unfolding texelIn mixed sumsTo nineSum
+    pub texel-between : Between (colorIn (half two) words false px py) (colorIn (half two) words true px py) (texelIn (half two) words px py) (punched (half two) (words 1 1) px py)
+    unfolding texelIn mixed
     texel-between =
-        blend-between (colorAt false) (colorAt true) (filled (half two) (ruleAt (words 1 1) px py) words (px + blockWidth two) (py + 4)) (punched (half two) (words 1 1) px py)
+        blend-between (colorIn (half two) words false px py) (colorIn (half two) words true px py) (filled (half two) (ruleAt (words 1 1) px py) words (px + blockWidth two) (py + 4))
+        (punched (half two) (words 1 1) px py)
         (filled-le (ruleAt (words 1 1) px py) (px + blockWidth two) (py + 4))
 
     pub texel-in-below : packed (texelIn (half two) words px py) < 2 ^ 32
@@ -89,4 +83,11 @@ pub texel-below : (two : Bool) (gx gy : ℕ) (of : ℕ → ℕ → List ℕ) (x 
 unfolding texelAt
 texel-below two gx gy of x y =
     texel-in-below two (λ i j. of (beside gx (x / blockWidth two) i) (beside gy (y / 4) j)) (x % blockWidth two) (y % 4)
+    (mod-lt x (omega (arith, half-low two))) (omega arith)
+
+-- and lies between its colours A and B
+pub lies-between : (two : Bool) (gx gy : ℕ) (d : List ℕ) (x y : ℕ) → LiesBetween two gx gy d x y
+unfolding texelAt
+lies-between two gx gy d x y =
+    texel-between two (λ i j. drop (8 * blockAddress gx gy (beside gx (x / blockWidth two) i) (beside gy (y / 4) j)) d) (x % blockWidth two) (y % 4)
     (mod-lt x (omega (arith, half-low two))) (omega arith)

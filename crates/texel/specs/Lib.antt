@@ -1,3 +1,4 @@
+pub mod Between
 pub mod Inner
 pub mod Needed
 pub mod Summed
