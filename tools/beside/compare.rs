@@ -237,12 +237,24 @@ fn off_the_domain() {
     std::panic::set_hook(Box::new(|_| {}));
     println!("| off the domain | the original | ours |");
     println!("|---|---|---|");
-    for (width, height, len, room) in [(4, 4, 4, 16), (4, 4, 7, 16), (4, 4, 4, 15), (12, 4, 12, 48), (0, 4, 0, 0), (4, 0, 8, 0), (65537, 1, 131080, 65537), (131069, 1, 262144, 131069)] {
+    let cases = [
+        (1, 1, 4, 1, false),
+        (1, 1, 7, 1, false),
+        (1, 1, 4, 0, false),
+        (9, 1, 12, 9, false),
+        (0, 1, 0, 0, false),
+        (1, 0, 8, 0, false),
+        (65537, 1, 131080, 65537, false),
+        (131069, 1, 262144, 131069, false),
+        (131064, 1, 131072, 131064, true),
+        (131065, 1, 131072, 131065, true),
+    ];
+    for (width, height, len, room, is2bpp) in cases {
         let (data, mut image) = (vec![0; len], vec![0; room]);
-        let theirs = std::panic::catch_unwind(|| original::decode_pvrtc(&data, width, height, &mut vec![0; room], false));
+        let theirs = std::panic::catch_unwind(|| original::decode_pvrtc(&data, width, height, &mut vec![0; room], is2bpp));
         let said = theirs.map_or("panics".to_string(), |answer| format!("{answer:?}"));
-        let ours = unsafe { plate_picture(data.as_ptr(), len, width as u64, height as u64, 0, image.as_mut_ptr(), room) };
-        println!("| {width} × {height} at 4bpp, {len} bytes, {room} words | {said} | {ours} |");
+        let ours = unsafe { plate_picture(data.as_ptr(), len, width as u64, height as u64, is2bpp as u32, image.as_mut_ptr(), room) };
+        println!("| {width} × {height} at {}bpp, {len} bytes, {room} words | {said} | {ours} |", if is2bpp { 2 } else { 4 });
     }
     let _ = std::panic::take_hook();
     println!();

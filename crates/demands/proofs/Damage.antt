@@ -22,13 +22,13 @@ use Rattle.demands.proofs.Member.{in-footprint, of-footprint}
 use Rattle.demands.proofs.Side.{found, draws, once}
 
 -- 7 by 7 texels at 4bpp, 15 by 7 at 2bpp
-count : (two : Bool) → reach (half two) * reach 2 ≡ cond two 105 49
-count true = refl
-count false = refl
+pub rectangle-size : (two : Bool) → reach (half two) * reach 2 ≡ cond two 105 49
+rectangle-size true = refl
+rectangle-size false = refl
 
 pub damaged-size : (two : Bool) (gx gy z : ℕ) → length (damaged two gx gy z) ≡ cond two 105 49
 unfolding damaged
-damaged-size two gx gy z = length-tab (spotAt two gx gy z) (reach (half two) * reach 2) ∙ count two
+damaged-size two gx gy z = length-tab (spotAt two gx gy z) (reach (half two) * reach 2) ∙ rectangle-size two
 
 module _ (two : Bool) (gx gy : ℕ) (px : Power gx) (py : Power gy) where
   abbrev h : ℕ

@@ -1,83 +1,130 @@
--- Demand 1: one outcome for each call, and no idling. The numbers are computed. Assumes nothing.
-use mathlib.Core.Path.{_≡_, refl, sym, _∙_}
+-- Demand 1, against idle versions: the texels that each would get wrong are computed. Assumes nothing.
+use mathlib.Core.Path.{_≡_, refl, ap, _∙_}
+use mathlib.Core.Bool.{Bool, true, false}
 use mathlib.Core.List.{List}
-use Prim.Native.Nat.{ℕ}
+use Prim.Native.Nat.{ℕ, _+_, _*_, _/_, _%_, _≤_, _<_}
 use native.Mathlib.Omega.{arith}
+use lib.ListN.{getD, length, getD-replicate}
 use Rattle.facts.specs.Bits.{flags}
 use Rattle.facts.specs.Checks.{firstOf}
 use Rattle.facts.specs.Sum.{sum}
 use Rattle.facts.specs.Tab.{tab}
-use Rattle.grid.specs.Grid.{halvings, log2, address, beside}
+use Rattle.facts.proofs.Numbers.{split}
+use Rattle.grid.specs.Grid.{half, blockWidth, halvings, log2, address, beside}
 use Rattle.word.specs.Word.{weight4bpp, punch4bpp, stored2bpp, weight2bpp, fill2bpp, wordOf}
 use Rattle.texel.specs.Texel.{share, nineSum, scaleColor, scaleAlpha, blended, near, filled, mixed, texelIn, texelAt}
-use Rattle.pvrtc.specs.Calls.{refusal, TexelRead}
+use Rattle.texel.proofs.Shares.{half-low}
+use Rattle.pvrtc.specs.Calls.{refusal, RowDecoded, BlockDecoded}
 use Rattle.pvrtc.specs.Picture.{pictureTexel}
 use Rattle.pvrtc.specs.Refusals.{shortImage, outside}
 use Rattle.pvrtc.specs.declared.Call.the-variants as call
-use Rattle.pvrtc.specs.declared.Picture.{Picture}
-use Rattle.pvrtc.specs.declared.Texel.the-variants.{Word}
+use Rattle.pvrtc.specs.declared.Decoded.the-variants.{Done}
 use Rattle.pvrtc.proofs.Agree.{row-is, block-is}
-use Rattle.pvrtc.proofs.Unique.{one-texel, one-written}
-use Rattle.demands.specs.Demands.{OneOutcome, beside8, below8, NoIdling}
+use Rattle.demands.specs.Idle.{beside2, below2, lentRow, lentImage, OneColour, FirstBlockAgain, FirstBlocksAgain, FirstRowAgain, NoIdling}
 use Rattle.demands.specs.Samples.{redBlack}
-
-pub one-outcome : OneOutcome
-one-outcome = record { texel = one-texel; row = λ p d y old new new' r s. one-written; block = λ p d old new new' r s. one-written }
-
--- what an answered word is
-pub answered : (p : Picture) (d : List ℕ) (x y v : ℕ) → TexelRead p d x y (Word v) → v ≡ pictureTexel p d x y
-answered p d x y v t = t .value ∙ rw (sym (t .number))
+use Rattle.demands.proofs.Seen.{answered}
 
 -- the calls that are made are accepted
-texel-passes : refusal beside8 (call.Texel 0 0) redBlack ≡ 0
-unfolding firstOf shortImage outside halvings log2
-texel-passes = refl
+record Passes (two : Bool) : Type 0 where
+  pub texel : refusal (beside2 two) (call.Texel 0 0) redBlack ≡ 0
+  pub row : refusal (beside2 two) (call.Row 0 (length (lentRow two))) redBlack ≡ 0
+  pub block : refusal (beside2 two) (call.Block (length (lentImage two))) redBlack ≡ 0
 
-row-passes : refusal beside8 (call.Row 0 8) redBlack ≡ 0
+passes : (two : Bool) → Passes two
 unfolding firstOf shortImage outside halvings log2
-row-passes = refl
-
-block-passes : refusal beside8 (call.Block 32) redBlack ≡ 0
-unfolding firstOf shortImage outside halvings log2
-block-passes = refl
+passes true = record { texel = refl; row = refl; block = refl }
+passes false = record { texel = refl; row = refl; block = refl }
 
 -- the texels that are looked at: red in the middle of the first block, black in the middle of the second, half red between them
-record Shades : Type 0 where
-  pub red : pictureTexel beside8 redBlack 2 2 ≡ 0xFFFF0000
-  pub black : pictureTexel beside8 redBlack 6 2 ≡ 0xFF000000
-  pub top-red : pictureTexel beside8 redBlack 2 0 ≡ 0xFFFF0000
-  pub below-red : pictureTexel below8 redBlack 2 2 ≡ 0xFFFF0000
-  pub below-half : pictureTexel below8 redBlack 2 0 ≡ 0xFF7F0000
+record Shades (two : Bool) : Type 0 where
+  pub red : pictureTexel (beside2 two) redBlack (half two) 2 ≡ 0xFFFF0000
+  pub black : pictureTexel (beside2 two) redBlack (3 * half two) 2 ≡ 0xFF000000
+  pub top-red : pictureTexel (beside2 two) redBlack (half two) 0 ≡ 0xFFFF0000
+  pub top-black : pictureTexel (beside2 two) redBlack (3 * half two) 0 ≡ 0xFF000000
+  pub upper : pictureTexel (below2 two) redBlack (half two) 2 ≡ 0xFFFF0000
+  pub lower : pictureTexel (below2 two) redBlack (half two) 6 ≡ 0xFF000000
+  pub between : pictureTexel (below2 two) redBlack (half two) 0 ≡ 0xFF7F0000
 
-shades : Shades
+shades : (two : Bool) → Shades two
 unfolding tab flags sum halvings log2 address beside weight4bpp punch4bpp stored2bpp weight2bpp fill2bpp wordOf share nineSum scaleColor scaleAlpha blended near filled mixed texelIn texelAt
-shades = record { red = refl; black = refl; top-red = refl; below-red = refl; below-half = refl }
+shades true = record { red = refl; black = refl; top-red = refl; top-black = refl; upper = refl; lower = refl; between = refl }
+shades false = record { red = refl; black = refl; top-red = refl; top-black = refl; upper = refl; lower = refl; between = refl }
 
-pub no-idling : NoIdling
-no-idling =
+-- where they stand in a row and in the two pictures
+module _ (two : Bool) (s : Shades two) {old new : List ℕ} (low : 2 ≤ half two) where
+  row-red : RowDecoded (beside2 two) redBlack 0 old new Done → getD new (half two) 0 ≡ 0xFFFF0000
+  row-red w = row-is (beside2 two) redBlack (half two) 0 (omega arith) w ∙ s .top-red
+
+  row-black : RowDecoded (beside2 two) redBlack 0 old new Done → getD new (3 * half two) 0 ≡ 0xFF000000
+  row-black w = row-is (beside2 two) redBlack (3 * half two) 0 (omega arith) w ∙ s .top-black
+
+  block-red : BlockDecoded (beside2 two) redBlack old new Done → getD new (2 * (2 * blockWidth two) + half two) 0 ≡ 0xFFFF0000
+  block-red w = block-is (beside2 two) redBlack (half two) 2 (omega arith) (omega arith) w ∙ s .red
+
+  block-black : BlockDecoded (beside2 two) redBlack old new Done → getD new (2 * (2 * blockWidth two) + 3 * half two) 0 ≡ 0xFF000000
+  block-black w = block-is (beside2 two) redBlack (3 * half two) 2 (omega arith) (omega arith) w ∙ s .black
+
+  upper-red : BlockDecoded (below2 two) redBlack old new Done → getD new (2 * blockWidth two + half two) 0 ≡ 0xFFFF0000
+  upper-red w = block-is (below2 two) redBlack (half two) 2 (omega arith) (omega arith) w ∙ s .upper
+
+  lower-black : BlockDecoded (below2 two) redBlack old new Done → getD new (6 * blockWidth two + half two) 0 ≡ 0xFF000000
+  lower-black w = block-is (below2 two) redBlack (half two) 6 (omega arith) (omega arith) w ∙ s .lower
+
+  edge-half : BlockDecoded (below2 two) redBlack old new Done → getD new (half two) 0 ≡ 0xFF7F0000
+  edge-half w =
+      let front : half two ≡ 0 * blockWidth two + half two = omega arith in
+      ap (λ (k : ℕ). getD new k 0) front ∙ block-is (below2 two) redBlack (half two) 0 (omega arith) (omega arith) w ∙ s .between
+
+pub no-idling : (two : Bool) → NoIdling two
+no-idling two =
+    let s = shades two in
+    let a = passes two in
+    let low = half-low two in
+    let wide : 3 * half two < 2 * blockWidth two = omega arith in
     record {
-      texel-told = λ r t. t .number ∙ texel-passes;
-      row-told = λ new r w. w .number ∙ row-passes;
-      block-told = λ new r w. w .number ∙ block-passes;
-      no-fixed-word = λ v t u. omega (arith, answered beside8 redBlack 2 2 v t, answered beside8 redBlack 6 2 v u, shades .red, shades .black);
-      row-written = λ w. omega (arith, row-is beside8 redBlack 2 0 (omega arith) w, shades .top-red);
-      block-written = λ w. omega (arith, block-is beside8 redBlack 2 2 (omega arith) (omega arith) w, shades .red);
-      not-first-block = λ new w same.
+      texel-told = λ r t. t .number ∙ a .texel;
+      row-told = λ new r w. w .number ∙ a .row;
+      block-told = λ new r w. w .number ∙ a .block;
+      texel-varies = λ v t u.
           omega (
             arith,
-            same 6 2 (omega arith) (omega arith),
-            block-is beside8 redBlack 6 2 (omega arith) (omega arith) w,
-            block-is beside8 redBlack 2 2 (omega arith) (omega arith) w,
-            shades .red,
-            shades .black,
+            answered (beside2 two) redBlack (half two) 2 v t,
+            answered (beside2 two) redBlack (3 * half two) 2 v u,
+            s .red,
+            s .black,
           );
-      not-first-row = λ new w same.
+      row-varies = λ v new w one. omega (arith, one (half two) (omega arith), one (3 * half two) wide, row-red two s low w, row-black two s low w);
+      block-varies = λ v new w one.
           omega (
             arith,
-            same 2 2 (omega arith) (omega arith),
-            block-is below8 redBlack 2 2 (omega arith) (omega arith) w,
-            block-is below8 redBlack 2 0 (omega arith) (omega arith) w,
-            shades .below-red,
-            shades .below-half,
+            one (2 * (2 * blockWidth two) + half two) (omega arith),
+            one (2 * (2 * blockWidth two) + 3 * half two) (omega arith),
+            block-red two s low w,
+            block-black two s low w,
           );
+      row-written = λ w. omega (arith, row-red two s low w, getD-replicate {A = ℕ} (2 * blockWidth two) (half two) 0 0 (omega arith));
+      block-written = λ w.
+          let k : ℕ = 2 * (2 * blockWidth two) + half two in
+          omega (arith, block-red two s low w, getD-replicate {A = ℕ} (8 * blockWidth two) k 0 0 (omega arith));
+      row-goes-on = λ new w again. omega (arith, row-red two s low w, row-black two s low w, again-row new again);
+      block-goes-on = λ new w again.
+          omega (
+            arith,
+            block-red two s low w,
+            block-black two s low w,
+            again (3 * half two) 2 wide (omega arith),
+            ap (λ (k : ℕ). getD new (2 * (2 * blockWidth two) + k) 0) middle,
+          );
+      block-goes-down = λ new w again. omega (arith, upper-red two s low w, lower-black two s low w, again (half two) 6 (omega arith) (omega arith));
+      rows-differ = λ new w again. omega (arith, upper-red two s low w, edge-half two s low w, again (half two) 2 (omega arith) (omega arith));
     }
+  where
+    -- the middle of the second block is that of the first, a block further
+    middle : 3 * half two % blockWidth two ≡ half two
+    middle = split (blockWidth two) (3 * half two) 1 (half two) (omega arith) (omega (arith, half-low two)) .1
+
+    again-row : (new : List ℕ) → FirstBlockAgain two 1 new → getD new (3 * half two) 0 ≡ getD new (half two) 0
+    again-row new again =
+        let at : 3 * half two ≡ 0 * (2 * blockWidth two) + 3 * half two = omega arith in
+        let first : 0 * (2 * blockWidth two) + 3 * half two % blockWidth two ≡ half two = omega (arith, middle) in
+        ap (λ (k : ℕ). getD new k 0) at ∙ again (3 * half two) 0 (omega (arith, half-low two)) (omega arith) ∙ ap (λ (k : ℕ). getD new k 0) first

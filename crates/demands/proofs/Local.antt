@@ -12,7 +12,7 @@ use Rattle.texel.proofs.Shares.{half-low}
 use Rattle.demands.specs.Footprint.{footprint}
 use Rattle.demands.specs.Local.{Covers, Local}
 use Rattle.demands.proofs.Damage.{damaged-size, damaged-listed, damaged-all, damaged-once}
-use Rattle.demands.proofs.Member.{of-footprint, footprint-some, footprint-few, footprint-rising, footprint-within, footprint-enough}
+use Rattle.demands.proofs.Member.{footprint-some, footprint-few, footprint-rising, footprint-within, footprint-enough}
 use Rattle.demands.proofs.Told.{told}
 
 -- the grid of a picture, its sides divided and rounded up, covers it
@@ -37,7 +37,7 @@ local two gx gy w h c =
       rising = footprint-rising two gx gy;
       within = within;
       enough = footprint-enough two gx gy;
-      needed = λ x y z m. told two gx gy x y (gx * gy) z (within x y z m) (of-footprint two gx gy x y z m);
+      needed = told two gx gy;
       size = damaged-size two gx gy;
       only = λ z d d' same x y lx ly differ.
           ⊎-elim

@@ -1,5 +1,5 @@
--- No footprint is too large: two runs tell each block of it. All their bytes are 0, but for the eight of that block in one oneBlock, which
--- are 15: both its colours have red 31, so red shows in the texel, whatever the weight. Assumes nothing.
+-- No footprint is too large: two runs tell a block at each texel that draws on it. All their bytes are 0, but for the eight of that block in
+-- one run, which are 15: both its colours have red 31, so red shows in the texel, whatever the weight. Assumes nothing.
 use mathlib.Core.Path.{_≡_, refl, sym, ap, _∙_}
 use mathlib.Core.Bool.{Bool, true, false, cond}
 use mathlib.Core.List.{List, []}
@@ -24,13 +24,13 @@ use Rattle.word.specs.Word.{weight4bpp, punch4bpp, weight2bpp, fill2bpp, wordOf
 use Rattle.word.specs.declared.PVRTCTexelColor.{PVRTCTexelColor}
 use Rattle.word.proofs.Bounds.{color-a, color-b}
 use Rattle.word.proofs.Same.{word-same}
-use Rattle.texel.specs.Inner.{side, sumsTo}
+use Rattle.texel.specs.Inner.{side}
 use Rattle.texel.specs.Texel.{share, factor, nineSum, scaleColor, scaleAlpha, blended, packed, near, filled, mixed, texelIn, texelAt, wordsOf, texelWord}
 use Rattle.texel.proofs.Range.{words, texel-between}
 use Rattle.texel.proofs.Same.{HasShare, look-same}
 use Rattle.texel.proofs.Shares.{half-low, half-high}
-use Rattle.demands.specs.Footprint.{Told}
-use Rattle.demands.proofs.Member.{Drawn}
+use Rattle.demands.specs.Local.{Told}
+use Rattle.demands.proofs.Member.{Drawn, of-footprint}
 
 -- byte k where block z has v in each byte, and every other byte is 0; and the run of these
 abbrev byte : ℕ → ℕ → ℕ → ℕ
@@ -86,8 +86,12 @@ red-of two false d b = ap (λ (c : PVRTCTexelColor). c .r) (color-a two d) ∙ r
 -- one such block that has a share makes the texel red, whatever the other eight are
 module _ (two : Bool) (of : ℕ → ℕ → List ℕ) (px py i j : ℕ) (lx : px < blockWidth two) (ly : py < 4)
     (across : HasShare (half two) px i) (down : HasShare 2 py j) (b : (k : ℕ) → k < 8 → getD (of i j) k 0 ≡ 15) where
-  sum-above : (second : Bool) → 31 ≤ sumsTo (half two) (words two of) second px py 9 .r
-  unfolding sumsTo
+  -- the sum of red over colour A, or B
+  abbrev reds : (second : Bool) → ℕ
+  reds second = nineSum (half two) (λ i j. side second (words two of i j) .r) px py
+
+  sum-above : (second : Bool) → 31 ≤ reds second
+  unfolding nineSum
   sum-above second =
       let k : ℕ = 3 * j + i in
       let ei : k % 3 ≡ i = omega arith in
@@ -96,34 +100,37 @@ module _ (two : Bool) (of : ℕ → ℕ → List ℕ) (px py i j : ℕ) (lx : px
       let term : f k ≡ 31 * (share (half two) px i * share 2 py j) = rw (ei, ej, red-of two second (of i j) b) in
       omega (arith, term-le f 9 k (omega arith), mul-pos (across .1) (down .1))
 
-  scaled-above : (second : Bool) → 0 < scaleColor (half two) (sumsTo (half two) (words two of) second px py 9 .r)
+  scaled-above : (second : Bool) → 0 < scaleColor (half two) (reds second)
   unfolding scaleColor
   scaled-above second =
-      let s : ℕ = sumsTo (half two) (words two of) second px py 9 .r in
+      let s : ℕ = reds second in
       omega (arith, le-div-iff-mul-le {k = half two} {x = 1} {y = s} (omega (arith, half-low two)) .1 (omega (arith, half-high two, sum-above second)))
 
   bright : 0 < packed (texelIn (half two) (words two of) px py)
   bright = omega (arith, texel-between two of px py lx ly .r .0, scaled-above false, scaled-above true)
 
--- two runs tell a block that a texel draws on
-pub told : (two : Bool) (gx gy x y n z : ℕ) → z < n → Drawn two gx gy x y z → Told n z (λ d. texelWord two gx gy d x y)
+-- two runs tell a block, at every texel that draws on it
+pub told : (two : Bool) (gx gy z : ℕ) → z < gx * gy → Told two gx gy z
 unfolding texelAt
-told two gx gy x y n z lz d =
+told two gx gy z lz =
     record {
       one = oneBlock 15 n z;
       other = oneBlock 0 n z;
-      one-length = length-tab (byte 15 z) (8 * n);
-      other-length = length-tab (byte 0 z) (8 * n);
+      one-size = length-tab (byte 15 z) (8 * n);
+      other-size = length-tab (byte 0 z) (8 * n);
       one-bytes = one-block-low 15 n z lz (omega arith);
       other-bytes = one-block-low 0 n z lz (omega arith);
       alone = λ b _ o k l. one-block-other 15 n z lz b k o l ∙ sym (one-block-other 0 n z lz b k o l);
-      differ = λ e. omega (arith, lit, dark two gx gy n z x y lz);
+      differ = λ x y m e. omega (arith, lit x y (of-footprint two gx gy x y z m), dark two gx gy n z x y lz);
     }
   where
-    of : ℕ → ℕ → List ℕ
-    of i j = drop (8 * blockAddress gx gy (beside gx (x / blockWidth two) i) (beside gy (y / 4) j)) (oneBlock 15 n z)
+    n : ℕ
+    n = gx * gy
 
-    lit : 0 < texelWord two gx gy (oneBlock 15 n z) x y
-    lit =
-        bright two of (x % blockWidth two) (y % 4) (d .i) (d .j) (mod-lt x (omega (arith, half-low two))) (omega arith) (d .across) (d .down)
+    of : ℕ → ℕ → ℕ → ℕ → List ℕ
+    of x y i j = drop (8 * blockAddress gx gy (beside gx (x / blockWidth two) i) (beside gy (y / 4) j)) (oneBlock 15 n z)
+
+    lit : (x y : ℕ) → Drawn two gx gy x y z → 0 < texelWord two gx gy (oneBlock 15 n z) x y
+    lit x y d =
+        bright two (of x y) (x % blockWidth two) (y % 4) (d .i) (d .j) (mod-lt x (omega (arith, half-low two))) (omega arith) (d .across) (d .down)
         (λ k l. rw (← d .is, getD-drop) (one-block-own 15 n z lz k l))

@@ -1,6 +1,11 @@
 pub mod Damage
-pub mod Demands
 pub mod Footprint
+pub mod Idle
 pub mod Local
+pub mod LocalCalls
+pub mod NoEffect
 pub mod Numbers
+pub mod Right
 pub mod Samples
+pub mod Table
+pub mod Total

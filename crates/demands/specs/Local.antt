@@ -4,11 +4,11 @@ use mathlib.Core.Path.{_≡_}
 use mathlib.Core.Bool.{Bool, cond}
 use mathlib.Core.List.{List, List·Memᴰ}
 use Prim.Native.Nat.{ℕ, _*_, _≤_, _<_}
-use lib.ListN.{length}
+use lib.ListN.{length, getD}
 use Rattle.grid.specs.Grid.{blockWidth, Power}
 use Rattle.texel.specs.Texel.{texelWord}
 use Rattle.demands.specs.Damage.{Spot, spot, damaged, Different}
-use Rattle.demands.specs.Footprint.{footprint, Rising, SameBlock, SameOutside, Told}
+use Rattle.demands.specs.Footprint.{footprint, Rising, SameBlock, SameOutside}
 
 -- A grid of gx by gy blocks, powers of two, that covers a picture of w by h texels.
 pub record Covers (two : Bool) (gx gy w h : ℕ) : Type 0 where
@@ -24,6 +24,17 @@ pub record Whole (two : Bool) (gx gy w h : ℕ) : Type 0 where
   pub across : w ≡ gx * blockWidth two
   pub down : h ≡ gy * 4
 
+-- Block z can be told: two runs of so many bytes as the grid has that differ in it alone, and at each texel whose footprint has it.
+pub record Told (two : Bool) (gx gy z : ℕ) : Type 0 where
+  pub one : List ℕ
+  pub other : List ℕ
+  pub one-size : length one ≡ 8 * (gx * gy)
+  pub other-size : length other ≡ 8 * (gx * gy)
+  pub one-bytes : (k : ℕ) → getD one k 0 < 256
+  pub other-bytes : (k : ℕ) → getD other k 0 < 256
+  pub alone : SameOutside (gx * gy) one other z
+  pub differ : (x y : ℕ) → List·Memᴰ z (footprint two gx gy x y) → texelWord two gx gy one x y ≡ texelWord two gx gy other x y → ⊥
+
 -- Demand 3 for a picture of w by h texels whose grid is gx by gy.
 pub record Local (two : Bool) (gx gy w h : ℕ) : Type 0 where
   -- A footprint has one to four blocks of the grid, ascending, each once.
@@ -34,8 +45,8 @@ pub record Local (two : Bool) (gx gy w h : ℕ) : Type 0 where
   -- Two runs that agree on a texel's footprint give the same texel.
   pub enough : (x y : ℕ) (d d' : List ℕ) → ((z : ℕ) → List·Memᴰ z (footprint two gx gy x y) → SameBlock d d' z)
       → texelWord two gx gy d x y ≡ texelWord two gx gy d' x y
-  -- For each block of it, two runs that differ in that block alone give different texels.
-  pub needed : (x y z : ℕ) → List·Memᴰ z (footprint two gx gy x y) → Told (gx * gy) z (λ d. texelWord two gx gy d x y)
+  -- For each block, two runs that differ in it alone give different texels wherever it is in the footprint.
+  pub needed : (z : ℕ) → z < gx * gy → Told two gx gy z
   -- Damage in block z changes no texel of the picture outside a rectangle of 49 texels at 4bpp, 105 at 2bpp.
   pub size : (z : ℕ) → length (damaged two gx gy z) ≡ cond two 105 49
   pub only : (z : ℕ) (d d' : List ℕ) → SameOutside (gx * gy) d d' z → (x y : ℕ) → x < w → y < h

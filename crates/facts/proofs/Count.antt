@@ -17,10 +17,20 @@ abbrev without : ℕ → (ℕ → Bool) → ℕ → Bool
 without a f k = not (eqb k a) && f k
 
 -- tests that agree below n pass as many
-count-same : (f g : ℕ → Bool) (n : ℕ) → ((k : ℕ) → k < n → f k ≡ g k) → count f n ≡ count g n
+pub count-same : (f g : ℕ → Bool) (n : ℕ) → ((k : ℕ) → k < n → f k ≡ g k) → count f n ≡ count g n
 unfolding count
 count-same f g zero e = refl
 count-same f g (suc n) e = rw (count-same f g n (λ k h. e k (omega arith)), e n (omega arith))
+
+-- a test that passes wherever another does passes no fewer
+pub count-le : (f g : ℕ → Bool) (n : ℕ) → ((k : ℕ) → k < n → f k ≡ true → g k ≡ true) → count f n ≤ count g n
+unfolding count
+count-le f g zero e = omega arith
+count-le f g (suc n) e = by (f n) refl (count-le f g n (λ k h. e k (omega arith)))
+  where
+    by : (t : Bool) → f n ≡ t → count f n ≤ count g n → count f n + cond t 1 0 ≤ count g n + cond (g n) 1 0
+    by true q l = rw (e n (omega arith) q) (omega arith)
+    by false q l = omega arith
 
 -- a number at or past n is none of those below it
 without-later : (f : ℕ → Bool) (n a : ℕ) → n ≤ a → count (without a f) n ≡ count f n

@@ -94,6 +94,6 @@ table-agrees gx gy x y p =
     let few : k ≤ 16 = pow-le-cancel {b = 16} (omega (arith, p .power, p .small)) in
     let pos : 0 < m = omega (arith, p .power, pow-pos k) in
     let spread : (v : ℕ) → spreadByTable (v % m) ≡ spreadBits k v = λ v.
-        spread-two-bytes (v % m) (omega (arith, mod-lt v pos, p .small))
-        ∙ ap (λ (n : ℕ). spreadBits 16 (v % n)) (p .power) ∙ of-sixteen k v few in
+    spread-two-bytes (v % m) (omega (arith, mod-lt v pos, p .small))
+    ∙ ap (λ (n : ℕ). spreadBits 16 (v % n)) (p .power) ∙ of-sixteen k v few in
     omega (arith, spread x, spread y, address-spread k x y, ap (λ (n : ℕ). n * n * (x / n + y / n)) (p .power))

@@ -86,9 +86,8 @@ agrees = same
 -- so each word of a picture, whose words Khronos finds where document 01 does
 pub is-khronos : (two : Bool) (width height : ℕ) (d : List ℕ) → Bytes d → PictureAgrees two width height d
 is-khronos two width height d l px py fx fy x y hx hy =
-    ap packed (look-same (half two) gx gy x y (half-low two) (wordsOf two gx gy d) (λ i j. wordOf two (bytes i j)) (λ i j _ _. found (beside gx (x / blockWidth two) i) (beside gy (y / 4) j)
-    (beside-below gx (x / blockWidth two) i (power-above gx px)) (beside-below gy (y / 4) j (power-above gy py))))
-    ∙ rw (t .red, t .green, t .blue, t .alpha) (ap₂ (λ (g h : ℕ). word32 (khronosTexel two g h (λ i j. word64 (wordBytesAt g h d i j)) x y)) (sym across) (sym down))
+    ap packed (look-same (half two) gx gy x y (half-low two) (wordsOf two gx gy d) (λ i j. wordOf two (bytes i j)) (λ i j _ _. found i j))
+    ∙ rw (t .red, t .green, t .blue, t .alpha) (ap₂ (λ (g h : ℕ). word32 (khronosTexel two g h (words g h) x y)) (sym across) (sym down))
   where
     gx : ℕ
     gx = blocks (blockWidth two) width
@@ -105,8 +104,17 @@ is-khronos two width height d l px py fx fy x y hx hy =
     bytes : ℕ → ℕ → List ℕ
     bytes i j = wordBytesAt gx gy d i j
 
-    found : (i j : ℕ) → i < gx → j < gy → wordsOf two gx gy d i j ≡ wordOf two (bytes i j)
-    found i j hi hj = ap (λ (z : ℕ). wordOf two (drop (8 * z) d)) (sym (same-storage .order gx gy i j px py fx fy hi hj))
+    words : ℕ → ℕ → ℕ → ℕ → ℕ
+    words g h i j = word64 (wordBytesAt g h d i j)
+
+    -- the words about the texel
+    found : (i j : ℕ) → let bx = beside gx (x / blockWidth two) i in let by = beside gy (y / 4) j in wordsOf two gx gy d bx by ≡ wordOf two (bytes bx by)
+    found i j =
+        let bx : ℕ = beside gx (x / blockWidth two) i in
+        let by : ℕ = beside gy (y / 4) j in
+        let across : bx < gx = beside-below gx (x / blockWidth two) i (power-above gx px) in
+        let down : by < gy = beside-below gy (y / 4) j (power-above gy py) in
+        ap (λ (z : ℕ). wordOf two (drop (8 * z) d)) (sym (same-storage .order gx gy bx by px py fx fy across down))
 
     t : Same (texelAt (half two) gx gy (λ i j. wordOf two (bytes i j)) x y) (khronosTexel two gx gy (λ i j. word64 (bytes i j)) x y)
     t =

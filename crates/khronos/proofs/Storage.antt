@@ -51,17 +51,20 @@ later-bits : (a b x y i : ℕ) → placed (suc a) (suc b) x y (suc i) ≡ 4 * pl
 later-bits a b x y i =
     let row : rowPlace (suc a) (suc i) ≡ suc (suc (rowPlace a i)) = omega arith in
     let column : columnPlace (suc b) (suc i) ≡ suc (suc (columnPlace b i)) = omega arith in
-    rw (row, column, ← shift 2 x i, ← shift 2 y i, pow-succ' 2 (suc (rowPlace a i)), pow-succ' 2 (rowPlace a i), pow-succ' 2 (suc (columnPlace b i)), pow-succ' 2 (columnPlace b i))
-    (omega arith)
+    rw (row, column, ← shift 2 x i, ← shift 2 y i, four-times (rowPlace a i), four-times (columnPlace b i)) (omega arith)
+  where
+    four-times : (k : ℕ) → 2 ^ suc (suc k) ≡ 4 * 2 ^ k
+    four-times k = rw (pow-succ' 2 (suc k), pow-succ' 2 k) (omega arith)
 
 -- a number is the sum of its bits
 bits-of : (n v : ℕ) → v < 2 ^ n → total (λ i. field v i 1 * 2 ^ i) n ≡ v
 unfolding total
 bits-of zero v h = omega arith
 bits-of (suc n) v h =
-    let later : (i : ℕ) → field v (suc i) 1 * 2 ^ suc i ≡ 2 * (field (v / 2) i 1 * 2 ^ i) = λ i. rw (← shift 2 v i, pow-succ' 2 i) (omega arith) in
     let half : v / 2 < 2 ^ n = omega (arith, pow-succ' 2 n) in
-    rw (total-same (λ i. field v (suc i) 1 * 2 ^ suc i) (λ i. 2 * (field (v / 2) i 1 * 2 ^ i)) n later, total-times 2 (λ i. field (v / 2) i 1 * 2 ^ i) n, bits-of n (v / 2) half, div-one v)
+    let upper : ℕ → ℕ = λ i. field (v / 2) i 1 * 2 ^ i in
+    let later : (i : ℕ) → field v (suc i) 1 * 2 ^ suc i ≡ 2 * upper i = λ i. rw (← shift 2 v i, pow-succ' 2 i) (omega arith) in
+    rw (total-same (λ i. field v (suc i) 1 * 2 ^ suc i) (λ i. 2 * upper i) n later, total-times 2 upper n, bits-of n (v / 2) half, div-one v)
     (omega arith)
 
 -- a side of one block has no bits, and so the other's stand at their own places

@@ -30,16 +30,16 @@ module _ {f g : List ℕ} (s : SameHeader f g) where
   field at h a b c d =
       rw (s .bytes at (omega arith) a, s .bytes (at + 1) (omega arith) b, s .bytes (at + 2) (omega arith) c, s .bytes (at + 3) (omega arith) d)
 
-  same-format : pixelFormat f ≡ pixelFormat g
+  pub same-format : pixelFormat f ≡ pixelFormat g
   same-format = rw (field 8 (omega arith) refl refl refl refl, field 12 (omega arith) refl refl refl refl)
 
-  same-width : widthField f ≡ widthField g
+  pub same-width : widthField f ≡ widthField g
   same-width = field 28 (omega arith) refl refl refl refl
 
-  same-height : heightField f ≡ heightField g
+  pub same-height : heightField f ≡ heightField g
   same-height = field 24 (omega arith) refl refl refl refl
 
-  same-payload : payloadOffset f ≡ payloadOffset g
+  pub same-payload : payloadOffset f ≡ payloadOffset g
   same-payload = ap (λ (n : ℕ). headerSize + n) (field 48 (omega arith) refl refl refl refl)
 
   same-plates : notOnePlate f ≡ notOnePlate g
@@ -58,7 +58,7 @@ module _ {f g : List ℕ} (s : SameHeader f g) where
       let hg : headerSize ≤ length g = ltb-false _ _ (sym (s .short) ∙ e) in
       ap not (same-start f g version (omega arith) (omega arith) (λ i h. s .bytes i (omega arith) (simp (lt-leb 4 i h, lt-leb 16 i (omega arith), lt-leb 20 i (omega arith)))))
 
-  same-number : headerRefusal f ≡ headerRefusal g
+  pub same-number : headerRefusal f ≡ headerRefusal g
   same-number = by (shortHeader f) refl
     where
       by : (t : Bool) → shortHeader f ≡ t → headerRefusal f ≡ headerRefusal g

@@ -1,0 +1,131 @@
+-- Demand 3 over every call: for each picture whose sizes are accepted. Assumes nothing.
+use mathlib.Core.Path.{_≡_, refl, sym, ap, _∙_}
+use mathlib.Core.Bool.{Bool, true, false, not, false≢true}
+use mathlib.Core.List.{List, List·Memᴰ, Memᴰ·cast}
+use Prim.Native.Nat.{ℕ, _+_, _*_, _/_, _%_, _≤_, _<_}
+use native.Mathlib.Nat.{mod-lt, div-add-mod'}
+use native.Mathlib.Omega.{arith}
+use lib.Dec.{eqb}
+use lib.ListN.{length, getD}
+use borrow.Author.Tests.{le-ltb, eqb-false, eq-eqb, ne-eqb}
+use Rattle.facts.proofs.Count.{count-same, count-le}
+use Rattle.grid.specs.Grid.{half, blockWidth}
+use Rattle.grid.proofs.Counts.{wide}
+use Rattle.texel.proofs.Same.{held}
+use Rattle.texel.proofs.Shares.{half-low}
+use Rattle.pvrtc.specs.Calls.{refusal, BlockDecoded}
+use Rattle.pvrtc.specs.Picture.{gridOf, pictureTexel}
+use Rattle.pvrtc.specs.Refusals.{need, zeroSide, largeSide, shortImage, notPower, outside}
+use Rattle.pvrtc.specs.declared.Call.{Call}
+use Rattle.pvrtc.specs.declared.Decoded.the-variants.{Done}
+use Rattle.pvrtc.specs.declared.Picture.{Picture}
+use Rattle.pvrtc.proofs.Accepted.{passed, power-across, power-down}
+use Rattle.pvrtc.proofs.Agree.{block-is}
+use Rattle.demands.specs.Footprint.{isIn, SameOutside}
+use Rattle.demands.specs.Local.{Told, Local}
+use Rattle.demands.specs.LocalCalls.{blocksOf, footprintOf, touchedBy, changed, mostTouched, Shown, LocalCalls}
+use Rattle.demands.proofs.Counted.{is-in, in-is, column-in, row-in, touched-at-most, touched-at-least}
+use Rattle.demands.proofs.Damage.{rectangle-size}
+use Rattle.demands.proofs.Local.{covers, local}
+use Rattle.demands.proofs.Member.{in-footprint}
+use Rattle.demands.proofs.Seen.{seen}
+
+module _ (p : Picture) (sides : zeroSide p ≡ false) (small : largeSide p ≡ false) (powers : notPower p ≡ false) where
+  abbrev two : Bool
+  two = p .is2bpp
+
+  here : Local two (gridOf p .across) (gridOf p .down) (p .width) (p .height)
+  here = local two (gridOf p .across) (gridOf p .down) (p .width) (p .height) (covers two (p .width) (p .height) (power-across p powers) (power-down p powers))
+
+  -- word k of a decoded picture is its texel
+  word-is : (d : List ℕ) {old new : List ℕ} → BlockDecoded p d old new Done → (k : ℕ) → k < p .width * p .height
+      → getD new k 0 ≡ pictureTexel p d (k % p .width) (k / p .width)
+  word-is d {old} {new} b k l =
+      let w : ℕ = p .width in
+      ap (λ (i : ℕ). getD new i 0) (sym (div-add-mod' k w)) ∙ block-is p d (k % w) (k / w) (column-in w (p .height) k l) (row-in w (p .height) k l) b
+
+  -- runs that differ in block z alone have the same texel where z is not in the footprint
+  unchanged : (d d' : List ℕ) (z x y : ℕ) → SameOutside (blocksOf p) d d' z → (List·Memᴰ z (footprintOf p x y) → ⊥)
+      → pictureTexel p d x y ≡ pictureTexel p d' x y
+  unchanged d d' z x y same out = here .enough x y d d' (λ b m. same b (here .within x y b m) (λ e. out (Memᴰ·cast (sym e) m)))
+
+  -- whether texel k in row order has z in its footprint
+  abbrev drawn : ℕ → ℕ → Bool
+  drawn z k = isIn z (footprintOf p (k % p .width) (k / p .width))
+
+  -- so a word that changes has z in its footprint
+  no-more : (z : ℕ) (d d' old new old' new' : List ℕ) → SameOutside (blocksOf p) d d' z
+      → BlockDecoded p d old new Done → BlockDecoded p d' old' new' Done → changed p new new' ≤ touchedBy p z
+  no-more z d d' old new old' new' same a b = count-le _ _ (p .width * p .height) has
+    where
+      has : (k : ℕ) → k < p .width * p .height → not (eqb (getD new k 0) (getD new' k 0)) ≡ true → drawn z k ≡ true
+      has k l e = by (isIn z (footprintOf p x y)) refl
+        where
+          x : ℕ
+          x = k % p .width
+
+          y : ℕ
+          y = k / p .width
+
+          by : (t : Bool) → isIn z (footprintOf p x y) ≡ t → isIn z (footprintOf p x y) ≡ true
+          by true q = q
+          by false q =
+              let equal : getD new k 0 ≡ getD new' k 0 =
+              word-is d a k l ∙ unchanged d d' z x y same (λ m. false≢true (sym q ∙ in-is z _ m)) ∙ sym (word-is d' b k l) in
+              absurd (false≢true (sym (ap not (eq-eqb _ _ equal)) ∙ e))
+
+  shown : (z : ℕ) → z < blocksOf p → Shown p z
+  shown z lz =
+      record {
+        one = t .one;
+        other = t .other;
+        one-size = t .one-size;
+        other-size = t .other-size;
+        one-bytes = t .one-bytes;
+        other-bytes = t .other-bytes;
+        alone = t .alone;
+        accepted = λ c roomy inside. (fits (t .one) c (t .one-size) roomy inside, fits (t .other) c (t .other-size) roomy inside);
+        differ = λ x y v w m a b e. t .differ x y m (sym (seen p (t .one) x y v a .is) ∙ e ∙ seen p (t .other) x y w b .is);
+        changes = λ old new old' new' a b. count-same _ _ (p .width * p .height) (λ k l. tells a b k l (drawn z k) refl);
+      }
+    where
+      t : Told two (gridOf p .across) (gridOf p .down) z
+      t = here .needed z lz
+
+      fits : (d : List ℕ) (c : Call) → length d ≡ 8 * blocksOf p → shortImage p c ≡ false → outside p c ≡ false → refusal p c d ≡ 0
+      fits d c e roomy inside =
+          passed p c (length d)
+          (record { sides = sides; small = small; enough = le-ltb (length d) (need p) (omega arith); roomy = roomy; powers = powers; inside = inside })
+
+      -- a word differs exactly where z is in the footprint
+      tells : {old new old' new' : List ℕ} → BlockDecoded p (t .one) old new Done → BlockDecoded p (t .other) old' new' Done
+          → (k : ℕ) → k < p .width * p .height → (has : Bool) → drawn z k ≡ has → not (eqb (getD new k 0) (getD new' k 0)) ≡ drawn z k
+      tells a b k l true q =
+          ap not (ne-eqb _ _ (λ e. t .differ _ _ (is-in z _ q) (sym (word-is (t .one) a k l) ∙ e ∙ word-is (t .other) b k l))) ∙ sym q
+      tells a b k l false q =
+          let texels = unchanged (t .one) (t .other) z (k % p .width) (k / p .width) (t .alone) (λ m. false≢true (sym q ∙ in-is z _ m)) in
+          ap not (eq-eqb _ _ (word-is (t .one) a k l ∙ texels ∙ sym (word-is (t .other) b k l))) ∙ sym q
+
+  pub local-calls : LocalCalls p
+  local-calls =
+      record {
+        some = here .some;
+        few = here .few;
+        fills = λ x y u v a b.
+            in-footprint two (gridOf p .across) (gridOf p .down) x y _
+            (record {
+              i = u / blockWidth two;
+              j = v / 4;
+              across = held (half two) (x % blockWidth two) u (half-low two) (mod-lt x (wide two)) (a .0) (a .1);
+              down = held 2 (y % 4) v (omega arith) (omega arith) (omega arith) (omega arith);
+              is = refl;
+            });
+        enough = λ x y v w d d' same a b. seen p d x y v a .is ∙ here .enough x y d d' same ∙ sym (seen p d' x y w b .is);
+        needed = shown;
+        only = λ x y z v w d d' same a b differ.
+            let s = seen p d x y v a in
+            here .only z d d' same x y (s .across) (s .down) (λ e. differ (s .is ∙ e ∙ sym (seen p d' x y w b .is)));
+        no-more = no-more;
+        at-most = λ z. omega (arith, touched-at-most here z, rectangle-size two);
+        exactly = λ whole z lz. omega (arith, touched-at-most here z, touched-at-least here z whole lz, rectangle-size two);
+      }

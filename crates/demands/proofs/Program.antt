@@ -1,0 +1,84 @@
+-- The program's picture is the block call's: it is accepted where the program refuses nothing, and its texels stand in the TGA.
+-- Assumes nothing.
+use mathlib.Core.Path.{_≡_, refl, sym, ap, ap₂, _∙_}
+use mathlib.Core.List.{List, _++_}
+use Prim.Native.Nat.{ℕ, _+_, _*_, _/_, _%_, _^_, _≤_, _<_}
+use native.Mathlib.Nat.{mul-le-mul-right, div-one, div-div-eq-div-mul, div-add-mod', mod-eq-of-lt}
+use native.Mathlib.Omega.{arith}
+use lib.ListN.{length, getD, drop}
+use lib.Seq.{getD-append-add}
+use Rattle.facts.specs.Tab.{tab}
+use Rattle.facts.proofs.Numbers.{split}
+use Rattle.facts.proofs.Tab.{getD-tab}
+use Rattle.grid.specs.Grid.{blockAddress}
+use Rattle.texel.proofs.Range.{texel-below}
+use Rattle.pvr.specs.Header.{u32At, metadataSize}
+use Rattle.pvrtc.specs.Calls.{refusal}
+use Rattle.pvrtc.specs.Picture.{gridOf, pictureTexel}
+use Rattle.pvrtc.specs.declared.Call.the-variants as call
+use Rattle.pvrtc.specs.declared.Picture.{Picture}
+use Rattle.convert.specs.Output.{plateOf, levelData, programRefusal, byteOf, tgaHeader, tgaOf, tga, output}
+use Rattle.convert.proofs.Answers.{written-tga}
+use Rattle.convert.proofs.Limits.{kept, call-says}
+use Rattle.convert.proofs.Said.{none-early, none-said}
+use Rattle.demands.specs.Right.{placeIn}
+
+module _ (file : List ℕ) (none : programRefusal file ≡ 0) where
+  pub block-accepted : refusal (plateOf file) (call.Block (plateOf file .width * plateOf file .height)) (levelData file) ≡ 0
+  block-accepted =
+      let p : Picture = plateOf file in
+      let no = none-said file none in
+      let k = kept p (metadataSize file) (none-early file (no .0)) in
+      call-says p (p .width * p .height) (length (levelData file)) (k .sides) (k .small) (omega arith) ∙ no .1
+
+  pub is-tga : output file ≡ tga (plateOf file) (levelData file)
+  is-tga = written-tga (programRefusal file) (plateOf file) (levelData file) none
+
+-- a number below 2 ^ 32 is its four bytes: each time the low one, and what is above it
+joined : (v a b c r s t : ℕ) → a * 256 + r ≡ v → b * 256 + s ≡ a → c * 256 + t ≡ b → r + 256 * s + 65536 * t + 16777216 * c ≡ v
+joined v a b c r s t ev ea eb = omega arith
+
+four-bytes : (v : ℕ) → v < 4294967296 → byteOf v 0 + 256 * byteOf v 1 + 65536 * byteOf v 2 + 16777216 * byteOf v 3 ≡ v
+four-bytes v h =
+    let a : ℕ = v / 256 in
+    let b : ℕ = a / 256 in
+    let c : ℕ = b / 256 in
+    let second : v / 65536 ≡ b = sym (div-div-eq-div-mul v 256 256) in
+    let third : v / 16777216 ≡ c = sym (div-div-eq-div-mul v 256 65536) ∙ sym (div-div-eq-div-mul a 256 256) in
+    let top : c % 256 ≡ c = mod-eq-of-lt (omega (arith, third)) in
+    rw (div-one v, second, third, top) (joined v a b c (v % 256) (a % 256) (b % 256) (div-add-mod' v 256) (div-add-mod' a 256) (div-add-mod' b 256))
+
+-- word k of a TGA
+module _ (w h : ℕ) (word : ℕ → ℕ) (k : ℕ) (l : k < w * h) where
+  abbrev byte : ℕ → ℕ
+  byte i = byteOf (word (i / 4)) (i % 4)
+
+  byte-at : (j : ℕ) → j < 4 → getD (tgaOf w h word) (18 + 4 * k + j) 0 ≡ byteOf (word k) j
+  unfolding tgaHeader
+  byte-at j hj =
+      let place : 18 + 4 * k + j ≡ length (tgaHeader w h) + (4 * k + j) = omega arith in
+      let number : (4 * k + j) / 4 ≡ k = omega arith in
+      let rest : (4 * k + j) % 4 ≡ j = omega arith in
+      ap (λ (n : ℕ). getD (tgaOf w h word) n 0) place
+      ∙ getD-append-add (tgaHeader w h) (tab byte (4 * (w * h))) (4 * k + j) 0
+      ∙ getD-tab byte (4 * (w * h)) (4 * k + j) 0 (omega arith)
+      ∙ ap₂ (λ (n i : ℕ). byteOf (word n) i) number rest
+
+  word-at : word k < 4294967296 → u32At (tgaOf w h word) (18 + 4 * k) ≡ word k
+  unfolding u32At
+  word-at low =
+      let first : 18 + 4 * k ≡ 18 + 4 * k + 0 = omega arith in
+      let start : getD (tgaOf w h word) (18 + 4 * k) 0 ≡ byteOf (word k) 0 = ap (λ (n : ℕ). getD (tgaOf w h word) n 0) first ∙ byte-at 0 (omega arith) in
+      rw (start, byte-at 1 (omega arith), byte-at 2 (omega arith), byte-at 3 (omega arith)) (four-bytes (word k) low)
+
+-- so texel (x, y) of a picture
+pub tga-texel : (p : Picture) (d : List ℕ) (x y : ℕ) → x < p .width → y < p .height → u32At (tga p d) (18 + 4 * placeIn p x y) ≡ pictureTexel p d x y
+tga-texel p d x y hx hy =
+    let w : ℕ = p .width in
+    let g = gridOf p in
+    let row : y + 1 ≤ p .height = omega arith in
+    let cut = split w (y * w + x) y x refl hx in
+    let word : ℕ → ℕ = λ k. pictureTexel p d (k % w) (k / w) in
+    let low : word (y * w + x) < 4294967296 = texel-below (g .is2bpp) (g .across) (g .down) (λ i j. drop (8 * blockAddress (g .across) (g .down) i j) d) _ _ in
+    word-at w (p .height) word (y * w + x) (omega (arith, mul-le-mul-right w row)) low
+    ∙ ap₂ (pictureTexel p d) (cut .1) (cut .0)

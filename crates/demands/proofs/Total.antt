@@ -1,0 +1,103 @@
+-- Demand 1 over the calls: one outcome, its number, and every lent word. Assumes nothing.
+use mathlib.Core.Path.{_≡_, refl, sym, ap, ap₂, _∙_}
+use mathlib.Core.Bool.{Bool, cond}
+use mathlib.Core.List.{List, _++_}
+use mathlib.Core.Logic.{_↔_}
+use Prim.Native.Nat.{ℕ, _+_, _*_, _/_, _%_, _≤_, _<_}
+use native.Mathlib.Nat.{mod-eq-of-lt}
+use native.Mathlib.Omega.{arith}
+use lib.Dec.{eqb}
+use lib.ListN.{length, drop}
+use borrow.Author.Tests.{ne-eqb}
+use Rattle.facts.specs.Checks.{Check, firstOf}
+use Rattle.facts.specs.Tab.{tab}
+use Rattle.facts.proofs.Checks.{exactly-when}
+use Rattle.facts.proofs.Tab.{length-tab, tab-same}
+use Rattle.paint.specs.Paint.{painted}
+use Rattle.paint.proofs.Painted.{whole}
+use Rattle.pvrtc.specs.Calls.{refusal, TexelRead, RowDecoded, BlockDecoded}
+use Rattle.pvrtc.specs.Picture.{pictureTexel}
+use Rattle.pvrtc.specs.Refusals.{checks, decodedNumber, texelNumber, texelValue}
+use Rattle.pvrtc.specs.declared.Call.the-variants as call
+use Rattle.pvrtc.specs.declared.Picture.{Picture}
+use Rattle.pvrtc.proofs.Accepted.{accepted, width-above, row-roomy, block-roomy}
+use Rattle.pvrtc.proofs.Unique.{one-texel, one-written}
+use Rattle.pvr.specs.Header.{headerChecks}
+use Rattle.pvr.proofs.Answers as header
+use Rattle.capi.proofs.Answers.{number-back, value-back}
+use Rattle.convert.specs.Output.{plateOf, levelData, programRefusal}
+use Rattle.convert.proofs.Answers.{written-line, written-tga}
+use Rattle.convert.proofs.Said as program
+use Rattle.demands.specs.Total.{OneOutcome, TexelOutcome, WordsOutcome, rowTexels, pictureTexels, Total, TotalFile}
+
+pub one-outcome : OneOutcome
+one-outcome = record { texel = one-texel; row = λ p d y old new new' r s. one-written; block = λ p d old new new' r s. one-written }
+
+-- a number and a word that the promise of a texel call determines
+texel-outcome : (l : List Check) (texel : ℕ) {n v : ℕ} → n ≡ firstOf l → v ≡ cond (eqb (firstOf l) 0) texel 0 → TexelOutcome l texel n v
+texel-outcome l texel {n} {v} number value =
+    record {
+      given = λ m h. rw number (exactly-when l m h);
+      refused = λ above. value ∙ rw (ne-eqb (firstOf l) 0 (λ e. omega arith)) refl;
+      done = λ none. value ∙ rw (sym number ∙ none) refl;
+    }
+
+-- a number and words that the promise of a writing call determines, where `after` is what it writes
+words-outcome : (l : List Check) (texels after : List ℕ) {old new : List ℕ} {n : ℕ}
+    → (firstOf l ≡ 0 → after ≡ texels ++ drop (length texels) old)
+    → n ≡ firstOf l → new ≡ cond (eqb (firstOf l) 0) after old → WordsOutcome l texels old new n
+words-outcome l texels after front number words =
+    record {
+      given = λ m h. rw number (exactly-when l m h);
+      refused = λ above. words ∙ rw (ne-eqb (firstOf l) 0 (λ e. omega arith)) refl;
+      done = λ none. let e = sym number ∙ none in words ∙ rw e (front e);
+    }
+
+module _ (p : Picture) (d : List ℕ) where
+  -- what an accepted row call writes: its texels, and the rest as it was
+  row-front : (y : ℕ) (old : List ℕ) → refusal p (call.Row y (length old)) d ≡ 0
+      → painted 0 (p .width) (p .width) 1 (λ x _. pictureTexel p d x y) old ≡ rowTexels p d y ++ drop (length (rowTexels p d y)) old
+  row-front y old e =
+      let w : ℕ = p .width in
+      let ok = accepted p (call.Row y (length old)) (length d) e in
+      let f : ℕ → ℕ → ℕ = λ x _. pictureTexel p d x y in
+      let one : w * 1 ≡ w = omega arith in
+      let same : tab (λ k. f (k % w) (k / w)) w ≡ rowTexels p d y = tab-same (λ k. f (k % w) (k / w)) (λ x. pictureTexel p d x y) w
+      (λ k l. ap (λ (x : ℕ). pictureTexel p d x y) (mod-eq-of-lt l)) in
+      let size : length (rowTexels p d y) ≡ w = length-tab (λ x. pictureTexel p d x y) w in
+      whole w 1 f old (width-above p (ok .sides)) (omega (arith, row-roomy p y (length old) (ok .roomy)))
+      ∙ ap (λ (n : ℕ). tab (λ k. f (k % w) (k / w)) n ++ drop n old) one
+      ∙ ap₂ (λ (l : List ℕ) (n : ℕ). l ++ drop n old) same (sym size)
+
+  -- and an accepted block call
+  block-front : (old : List ℕ) → refusal p (call.Block (length old)) d ≡ 0
+      → painted 0 (p .width) (p .width) (p .height) (pictureTexel p d) old ≡ pictureTexels p d ++ drop (length (pictureTexels p d)) old
+  block-front old e =
+      let ok = accepted p (call.Block (length old)) (length d) e in
+      let size : length (pictureTexels p d) ≡ p .width * p .height = length-tab _ (p .width * p .height) in
+      whole (p .width) (p .height) (pictureTexel p d) old (width-above p (ok .sides)) (block-roomy p (length old) (ok .roomy))
+      ∙ ap (λ (n : ℕ). pictureTexels p d ++ drop n old) (sym size)
+
+  pub total : Total p d
+  total =
+      record {
+        texel = λ x y r t. texel-outcome (checks p (call.Texel x y) (length d)) (pictureTexel p d x y) (t .number) (t .value);
+        row = λ y old new r w. words-outcome (checks p (call.Row y (length old)) (length d)) (rowTexels p d y) _ (row-front y old) (w .number) (w .words);
+        block = λ old new r w. words-outcome (checks p (call.Block (length old)) (length d)) (pictureTexels p d) _ (block-front old) (w .number) (w .words);
+        c-texel = λ x y r e.
+            texel-outcome (checks p (call.Texel x y) (length d)) (pictureTexel p d x y)
+            (ap (λ (a : ℕ). a / 4294967296) e ∙ number-back p d x y)
+            (ap (λ (a : ℕ). a % 4294967296) e ∙ value-back p d x y);
+        c-row = λ y old new n w. words-outcome (checks p (call.Row y (length old)) (length d)) (rowTexels p d y) _ (row-front y old) (w .number) (w .words);
+        c-picture = λ old new n w. words-outcome (checks p (call.Block (length old)) (length d)) (pictureTexels p d) _ (block-front old) (w .number) (w .words);
+      }
+
+pub total-file : (file : List ℕ) → TotalFile file
+total-file file =
+    record {
+      header = λ r read. header.refused-when read;
+      c-header = exactly-when (headerChecks file);
+      program = program.refused-when file;
+      refused = written-line (programRefusal file) (plateOf file) (levelData file);
+      done = written-tga (programRefusal file) (plateOf file) (levelData file);
+    }

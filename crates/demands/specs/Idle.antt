@@ -1,0 +1,71 @@
+-- Demand 1, against idle versions: inputs at which each of them would break a promise, at either depth. Assumes nothing: these are definitions.
+use mathlib.Core.Path.{_≡_}
+use mathlib.Core.Bool.{Bool}
+use mathlib.Core.List.{List}
+use Prim.Native.Nat.{ℕ, _+_, _*_, _%_, _<_}
+use lib.ListN.{getD, replicate}
+use Rattle.grid.specs.Grid.{half, blockWidth}
+use Rattle.pvrtc.specs.Calls.{TexelRead, RowDecoded, BlockDecoded}
+use Rattle.pvrtc.specs.Picture.{picture}
+use Rattle.pvrtc.specs.Refusals.{texelNumber, decodedNumber}
+use Rattle.pvrtc.specs.declared.Decoded.{Decoded}
+use Rattle.pvrtc.specs.declared.Decoded.the-variants.{Done}
+use Rattle.pvrtc.specs.declared.Picture.{Picture}
+use Rattle.pvrtc.specs.declared.Texel.{Texel}
+use Rattle.pvrtc.specs.declared.Texel.the-variants.{Word}
+use Rattle.demands.specs.Samples.{redBlack}
+
+-- A plate of two blocks, red and black: side by side, and one above the other.
+abbrev pub beside2 : Bool → Picture
+beside2 two = picture (2 * blockWidth two) 4 two
+
+abbrev pub below2 : Bool → Picture
+below2 two = picture (blockWidth two) 8 two
+
+-- The lent words of a row and of a picture of either plate.
+abbrev pub lentRow : Bool → List ℕ
+lentRow two = replicate (2 * blockWidth two) 0
+
+abbrev pub lentImage : Bool → List ℕ
+lentImage two = replicate (8 * blockWidth two) 0
+
+-- One colour: the first words are all v.
+abbrev pub OneColour : (count v : ℕ) → List ℕ → Type 0
+OneColour count v new = (k : ℕ) → k < count → getD new k 0 ≡ v
+
+-- The first block again: the second block across has its words.
+abbrev pub FirstBlockAgain : Bool → (height : ℕ) → List ℕ → Type 0
+FirstBlockAgain two height new =
+    let w = 2 * blockWidth two in
+    (x y : ℕ) → x < w → y < height → getD new (y * w + x) 0 ≡ getD new (y * w + x % blockWidth two) 0
+
+-- The first row of blocks again: the second has its words.
+abbrev pub FirstBlocksAgain : Bool → List ℕ → Type 0
+FirstBlocksAgain two new =
+    let w = blockWidth two in
+    (x y : ℕ) → x < w → y < 8 → getD new (y * w + x) 0 ≡ getD new (y % 4 * w + x) 0
+
+-- The first row again: every row has its words.
+abbrev pub FirstRowAgain : Bool → List ℕ → Type 0
+FirstRowAgain two new =
+    let w = blockWidth two in
+    (x y : ℕ) → x < w → y < 8 → getD new (y * w + x) 0 ≡ getD new x 0
+
+-- What no outcome can be, at either depth. The C calls' outcomes are these calls' (`SameInC`).
+pub record NoIdling (two : Bool) : Type 0 where
+  -- It refuses each time: these calls must not.
+  pub texel-told : (r : Texel) → TexelRead (beside2 two) redBlack 0 0 r → texelNumber r ≡ 0
+  pub row-told : (new : List ℕ) (r : Decoded) → RowDecoded (beside2 two) redBlack 0 (lentRow two) new r → decodedNumber r ≡ 0
+  pub block-told : (new : List ℕ) (r : Decoded) → BlockDecoded (beside2 two) redBlack (lentImage two) new r → decodedNumber r ≡ 0
+  -- It answers one fixed colour, and none can stand for all of these texels.
+  pub texel-varies : (v : ℕ) → TexelRead (beside2 two) redBlack (half two) 2 (Word v) → TexelRead (beside2 two) redBlack (3 * half two) 2 (Word v) → ⊥
+  pub row-varies : (v : ℕ) (new : List ℕ) → RowDecoded (beside2 two) redBlack 0 (lentRow two) new Done → OneColour (2 * blockWidth two) v new → ⊥
+  pub block-varies : (v : ℕ) (new : List ℕ) → BlockDecoded (beside2 two) redBlack (lentImage two) new Done → OneColour (8 * blockWidth two) v new → ⊥
+  -- It writes nothing and reports success.
+  pub row-written : RowDecoded (beside2 two) redBlack 0 (lentRow two) (lentRow two) Done → ⊥
+  pub block-written : BlockDecoded (beside2 two) redBlack (lentImage two) (lentImage two) Done → ⊥
+  -- It decodes the first block and repeats it, or the first row of blocks, or the first row.
+  pub row-goes-on : (new : List ℕ) → RowDecoded (beside2 two) redBlack 0 (lentRow two) new Done → FirstBlockAgain two 1 new → ⊥
+  pub block-goes-on : (new : List ℕ) → BlockDecoded (beside2 two) redBlack (lentImage two) new Done → FirstBlockAgain two 4 new → ⊥
+  pub block-goes-down : (new : List ℕ) → BlockDecoded (below2 two) redBlack (lentImage two) new Done → FirstBlocksAgain two new → ⊥
+  pub rows-differ : (new : List ℕ) → BlockDecoded (below2 two) redBlack (lentImage two) new Done → FirstRowAgain two new → ⊥

@@ -1,0 +1,42 @@
+-- Demand 2, over every call and the program: each texel is the one that Khronos describes. Assumes nothing: these are definitions.
+use mathlib.Core.Path.{_≡_}
+use mathlib.Core.List.{List}
+use Prim.Native.Nat.{ℕ, _+_, _*_, _<_}
+use lib.ListN.{getD}
+use Rattle.khronos.specs.Agrees.{Bytes, word32}
+use Rattle.khronos.specs.Storage.{khronosPicture}
+use Rattle.pvr.specs.Header.{u32At}
+use Rattle.pvrtc.specs.Calls.{TexelRead, RowDecoded, BlockDecoded}
+use Rattle.pvrtc.specs.declared.Decoded.the-variants.{Done}
+use Rattle.pvrtc.specs.declared.Picture.{Picture}
+use Rattle.pvrtc.specs.declared.Texel.the-variants.{Word}
+use Rattle.capi.specs.Plate.{texelAnswer, WroteRow, WrotePicture}
+use Rattle.convert.specs.Output.{plateOf, levelData, programRefusal, output}
+
+-- The place of texel (x, y) among a picture's words.
+abbrev pub placeIn : Picture → ℕ → ℕ → ℕ
+placeIn p x y = y * p .width + x
+
+-- The word v is what a call gives for texel (x, y) of the picture p whose data is d.
+pub data Gives (p : Picture) (d : List ℕ) (x y v : ℕ) : Type 0 where
+  -- The texel call answers it.
+  by-texel : TexelRead p d x y (Word v) → Gives p d x y v
+  -- The row call lays it at word x.
+  by-row : (old new : List ℕ) → RowDecoded p d y old new Done → x < p .width → v ≡ getD new x 0 → Gives p d x y v
+  -- The block call lays it at word y × width + x.
+  by-block : (old new : List ℕ) → BlockDecoded p d old new Done → x < p .width → y < p .height → v ≡ getD new (placeIn p x y) 0 → Gives p d x y v
+  -- C is answered it, with no number above, and finds it among its words.
+  by-c-texel : v < 4294967296 → v ≡ texelAnswer p d x y → Gives p d x y v
+  by-c-row : (old new : List ℕ) → WroteRow p d y old new 0 → x < p .width → v ≡ getD new x 0 → Gives p d x y v
+  by-c-picture : (old new : List ℕ) → WrotePicture p d old new 0 → x < p .width → y < p .height → v ≡ getD new (placeIn p x y) 0 → Gives p d x y v
+  -- The program writes it for a file, behind the 18 bytes of the header.
+  by-program : (file : List ℕ) → plateOf file ≡ p → levelData file ≡ d → programRefusal file ≡ 0 → x < p .width → y < p .height
+      → v ≡ u32At (output file) (18 + 4 * placeIn p x y) → Gives p d x y v
+
+-- The word that Khronos describes at texel (x, y) of a picture.
+abbrev pub khronosWord : Picture → List ℕ → ℕ → ℕ → ℕ
+khronosWord p d x y = word32 (khronosPicture (p .is2bpp) (p .width) (p .height) d x y)
+
+-- Whatever call gives it, a texel is Khronos's; so all calls agree.
+abbrev pub Right : Type 0
+Right = (p : Picture) (d : List ℕ) → Bytes d → (x y v : ℕ) → Gives p d x y v → v ≡ khronosWord p d x y

@@ -1,0 +1,94 @@
+-- Demand 1, over the calls, what C calls and files: every call ends with its answer or a numbered refusal.
+-- Assumes nothing: these are definitions.
+use mathlib.Core.Path.{_≡_}
+use mathlib.Core.List.{List, _++_}
+use mathlib.Core.Logic.{_↔_}
+use Prim.Native.Nat.{ℕ, _+_, _*_, _/_, _%_, _≤_, _<_}
+use lib.ListN.{length, drop}
+use Rattle.facts.specs.Checks.{Check, Given}
+use Rattle.facts.specs.Tab.{tab}
+use Rattle.pvrtc.specs.Calls.{TexelRead, RowDecoded, BlockDecoded}
+use Rattle.pvrtc.specs.Picture.{pictureTexel}
+use Rattle.pvrtc.specs.Refusals.{need, checks, decodedNumber, texelNumber, texelValue}
+use Rattle.pvrtc.specs.declared.Call.the-variants as call
+use Rattle.pvrtc.specs.declared.Decoded.{Decoded}
+use Rattle.pvrtc.specs.declared.Picture.{Picture}
+use Rattle.pvrtc.specs.declared.Texel.{Texel}
+use Rattle.pvr.specs.Header.{headerChecks, headerNumber, HeaderRead}
+use Rattle.pvr.specs.declared.Header.{Header}
+use Rattle.capi.specs.Plate.{texelAnswer, WroteRow, WrotePicture, headerField}
+use Rattle.convert.specs.Output.{plateOf, levelData, programChecks, programRefusal, refusedLine, tga, output}
+
+-- No two outcomes of a call meet its promise.
+pub record OneOutcome : Type 0 where
+  pub texel : (p : Picture) (d : List ℕ) (x y : ℕ) (r s : Texel) → TexelRead p d x y r → TexelRead p d x y s → r ≡ s
+  pub row : (p : Picture) (d : List ℕ) (y : ℕ) (old new new' : List ℕ) (r s : Decoded)
+      → RowDecoded p d y old new r → RowDecoded p d y old new' s → (r ≡ s) × (new ≡ new')
+  pub block : (p : Picture) (d old new new' : List ℕ) (r s : Decoded)
+      → BlockDecoded p d old new r → BlockDecoded p d old new' s → (r ≡ s) × (new ≡ new')
+
+-- What a texel call with these checks says by its number n and its word v.
+pub record TexelOutcome (l : List Check) (texel n v : ℕ) : Type 0 where
+  -- A number is given exactly when its condition holds and no earlier one of the call does.
+  pub given : (m : ℕ) → 0 < m → (n ≡ m) ↔ Given l m
+  -- A refusal returns its number and no word.
+  pub refused : 0 < n → v ≡ 0
+  -- Success answers the texel.
+  pub done : n ≡ 0 → v ≡ texel
+
+-- What a call with these checks says by its number n, and does to lent words.
+pub record WordsOutcome (l : List Check) (texels old new : List ℕ) (n : ℕ) : Type 0 where
+  -- A number is given exactly when its condition holds and no earlier one of the call does.
+  pub given : (m : ℕ) → 0 < m → (n ≡ m) ↔ Given l m
+  -- A refusal changes no lent word.
+  pub refused : 0 < n → new ≡ old
+  -- Success writes the texels in front; later words stay.
+  pub done : n ≡ 0 → new ≡ texels ++ drop (length texels) old
+
+-- The texels of a row, and of a picture: (x, y) at place y × width + x.
+abbrev pub rowTexels : Picture → List ℕ → ℕ → List ℕ
+rowTexels p d y = tab (λ x. pictureTexel p d x y) (p .width)
+
+abbrev pub pictureTexels : Picture → List ℕ → List ℕ
+pictureTexels p d = tab (λ k. pictureTexel p d (k % p .width) (k / p .width)) (p .width * p .height)
+
+-- The texel call, the row call and the block call on data d, and the same three in C.
+pub record Total (p : Picture) (d : List ℕ) : Type 0 where
+  pub texel : (x y : ℕ) (r : Texel) → TexelRead p d x y r
+      → TexelOutcome (checks p (call.Texel x y) (length d)) (pictureTexel p d x y) (texelNumber r) (texelValue r)
+  pub row : (y : ℕ) (old new : List ℕ) (r : Decoded) → RowDecoded p d y old new r
+      → WordsOutcome (checks p (call.Row y (length old)) (length d)) (rowTexels p d y) old new (decodedNumber r)
+  pub block : (old new : List ℕ) (r : Decoded) → BlockDecoded p d old new r
+      → WordsOutcome (checks p (call.Block (length old)) (length d)) (pictureTexels p d) old new (decodedNumber r)
+  pub c-texel : (x y r : ℕ) → r ≡ texelAnswer p d x y
+      → TexelOutcome (checks p (call.Texel x y) (length d)) (pictureTexel p d x y) (r / 4294967296) (r % 4294967296)
+  pub c-row : (y : ℕ) (old new : List ℕ) (n : ℕ) → WroteRow p d y old new n
+      → WordsOutcome (checks p (call.Row y (length old)) (length d)) (rowTexels p d y) old new n
+  pub c-picture : (old new : List ℕ) (n : ℕ) → WrotePicture p d old new n
+      → WordsOutcome (checks p (call.Block (length old)) (length d)) (pictureTexels p d) old new n
+
+-- A file: its header, the header's number in C, and what the program writes.
+pub record TotalFile (file : List ℕ) : Type 0 where
+  -- A number is given exactly when its condition holds and no earlier one does.
+  pub header : (r : Header) → HeaderRead file r → (n : ℕ) → 0 < n → (headerNumber r ≡ n) ↔ Given (headerChecks file) n
+  pub c-header : (n : ℕ) → 0 < n → (headerField file 0 ≡ n) ↔ Given (headerChecks file) n
+  pub program : (n : ℕ) → 0 < n → (programRefusal file ≡ n) ↔ Given (programChecks file) n
+  -- The program writes the line of a refusal alone, or the picture.
+  pub refused : 0 < programRefusal file → output file ≡ refusedLine (programRefusal file)
+  pub done : programRefusal file ≡ 0 → output file ≡ tga (plateOf file) (levelData file)
+
+-- Data past 8n bytes has no effect: an outcome is right for d exactly when it is for d followed by anything.
+pub record PastUnread (p : Picture) (d more : List ℕ) : Type 0 where
+  pub texel : (x y : ℕ) (r : Texel) → TexelRead p d x y r ↔ TexelRead p (d ++ more) x y r
+  pub row : (y : ℕ) (old new : List ℕ) (r : Decoded) → RowDecoded p d y old new r ↔ RowDecoded p (d ++ more) y old new r
+  pub block : (old new : List ℕ) (r : Decoded) → BlockDecoded p d old new r ↔ BlockDecoded p (d ++ more) old new r
+
+-- So it is for every picture and all data that has the need.
+abbrev pub NothingPast : Type 0
+NothingPast = (p : Picture) (d more : List ℕ) → need p ≤ length d → PastUnread p d more
+
+-- What C calls answers what the calls answer, as numbers: so whatever is proved of the calls holds of it.
+pub record SameInC (p : Picture) (d : List ℕ) : Type 0 where
+  pub texel : (x y : ℕ) (r : Texel) → TexelRead p d x y r → texelAnswer p d x y ≡ texelValue r + 4294967296 * texelNumber r
+  pub row : (y : ℕ) (old new : List ℕ) (r : Decoded) → RowDecoded p d y old new r ↔ WroteRow p d y old new (decodedNumber r)
+  pub picture : (old new : List ℕ) (r : Decoded) → BlockDecoded p d old new r ↔ WrotePicture p d old new (decodedNumber r)
