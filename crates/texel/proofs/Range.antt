@@ -64,12 +64,15 @@ module _ (two : Bool) (of : ℕ → ℕ → List ℕ) where
         (sums-low (half two) words second px py lx ly 9 (omega arith) (λ k l. small-side two second (of (k % 3) (k / 3))))
 
     -- each channel of a texel lies between A's and B's, alpha where it is not punched through
-    pub texel-between : Between (colorIn (half two) words false px py) (colorIn (half two) words true px py) (texelIn (half two) words px py) (punched (half two) (words 1 1) px py)
+    pub texel-between :
+        Between (colorIn (half two) words false px py) (colorIn (half two) words true px py) (texelIn (half two) words px py)
+        (punched (half two) (words 1 1) px py)
     unfolding texelIn mixed
     texel-between =
-        blend-between (colorIn (half two) words false px py) (colorIn (half two) words true px py) (filled (half two) (ruleAt (words 1 1) px py) words (px + blockWidth two) (py + 4))
-        (punched (half two) (words 1 1) px py)
-        (filled-le (ruleAt (words 1 1) px py) (px + blockWidth two) (py + 4))
+        let rule = ruleAt (words 1 1) px py in
+        blend-between (colorIn (half two) words false px py) (colorIn (half two) words true px py)
+        (filled (half two) rule words (px + blockWidth two) (py + 4)) (punched (half two) (words 1 1) px py)
+        (filled-le rule (px + blockWidth two) (py + 4))
 
     pub texel-in-below : packed (texelIn (half two) words px py) < 2 ^ 32
     unfolding texelIn mixed sumsTo nineSum
