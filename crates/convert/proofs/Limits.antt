@@ -16,7 +16,7 @@ use Rattle.pvrtc.specs.declared.Picture.{Picture}
 use Rattle.pvrtc.specs.Picture.{across, down}
 use Rattle.pvrtc.specs.Refusals.{need, zeroSide, largeSide, shortImage, outside, checks}
 use Rattle.convert.specs.Inner.{TgaFits}
-use Rattle.convert.specs.Output.{longMetadata, longSide, largeNeed, limitChecks, payloadChecks, ownChecks, Room}
+use Rattle.convert.specs.Output.{needLimit, longMetadata, longSide, largeNeed, limitChecks, payloadChecks, ownChecks, Room}
 
 -- a number that is not above 0 is 0
 pub says-none : {n m : ℕ} → n ≡ m → n ≤ 0 → m ≡ 0
@@ -66,7 +66,7 @@ pub few-words : (p : Picture) → largeNeed p ≡ false → p .width * p .height
 few-words p e =
     let x : p .width ≤ across p * blockWidth (p .is2bpp) = blocks-cover (blockWidth (p .is2bpp)) (p .width) (wide (p .is2bpp)) in
     let y : p .height ≤ down p * 4 = blocks-cover 4 (p .height) (omega arith) in
-    let n : need p ≤ 32768 = ltb-false 32768 (need p) e in
+    let n : need p ≤ needLimit = ltb-false needLimit (need p) e in
     omega (arith, mul-le-mul x y, mul-le-mul-left (across p * down p) (narrow (p .is2bpp)), n)
 
 -- what the block call says of a plate that keeps the limits, into enough words: that the data is short, or that the blocks are no power of two

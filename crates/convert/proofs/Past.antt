@@ -1,4 +1,4 @@
--- Bytes past level 0 have no effect on what is written, and none past the first 36,916 has. Assumes nothing.
+-- Bytes past level 0 have no effect on what is written, and none past the read limit has. Assumes nothing.
 use mathlib.Core.Path.{_≡_, refl, sym, ap, ap₂, _∙_}
 use mathlib.Core.Bool.{Bool, true, false, cond, not}
 use mathlib.Core.List.{List, _++_}
@@ -18,7 +18,7 @@ use Rattle.pvrtc.specs.declared.Picture.{Picture}
 use Rattle.pvrtc.specs.Calls.{refusal}
 use Rattle.pvrtc.specs.Refusals.{need, shortData}
 use Rattle.pvrtc.proofs.Past.{picture-past}
-use Rattle.convert.specs.Output.{plateOf, levelData, limitChecks, payloadChecks, ownChecks, programRefusal, refusedLine, written, output}
+use Rattle.convert.specs.Output.{plateOf, levelData, limitChecks, payloadChecks, ownChecks, programRefusal, refusedLine, written, output, metadataLimit, needLimit, readLimit, EnoughRead}
 use Rattle.convert.proofs.Answers.{tga-same, written-line, written-tga}
 use Rattle.convert.proofs.Limits.{kept, own-same, call-says}
 use Rattle.convert.proofs.Said.{header-first, early, early-first, none-early, none-said}
@@ -131,25 +131,25 @@ module _ (file more : List ℕ) (enough : levelEnd file ≤ length file) where
           let other : programRefusal file ≡ 0 → ⊥ = eqb-false (programRefusal file) 0 e in
           written-line (programRefusal file) p (d ++ more) (omega arith) ∙ sym (written-line (programRefusal file) p d (omega arith))
 
--- and none past the first 36,916, which is why the program reads no more
-pub enough-read : (file : List ℕ) → output (take 36916 file) ≡ output file
+-- and none past the read limit, which is why the program reads no more
+pub enough-read : EnoughRead
 enough-read file =
     ⊎-elim
-    (λ more. let long : 36916 ≤ length file = omega (arith, more) in sym (cut (eqb (early front) 0) refl (length-take-le 36916 file long)) ∙ ap
-    output (take-append-drop 36916 file))
-    (λ few. ap output (take-all 36916 file few))
-    (lt-or-le 36916 (length file))
+    (λ more. let long : readLimit ≤ length file = omega (arith, more) in sym (cut (eqb (early front) 0) refl (length-take-le readLimit file long)) ∙ ap
+    output (take-append-drop readLimit file))
+    (λ few. ap output (take-all readLimit file few))
+    (lt-or-le readLimit (length file))
   where
     front : List ℕ
-    front = take 36916 file
+    front = take readLimit file
 
     rest : List ℕ
-    rest = drop 36916 file
+    rest = drop readLimit file
 
-    cut : (t : Bool) → eqb (early front) 0 ≡ t → length front ≡ 36916 → output (front ++ rest) ≡ output front
+    cut : (t : Bool) → eqb (early front) 0 ≡ t → length front ≡ readLimit → output (front ++ rest) ≡ output front
     cut true e size =
         let k = kept (plateOf front) (metadataSize front) (none-early front (eqb-true (early front) 0 e)) in
-        later-unread front rest (omega (arith, ltb-false 4096 (metadataSize front) (k .metadata), ltb-false 32768 (need (plateOf front)) (k .needed)))
+        later-unread front rest (omega (arith, ltb-false metadataLimit (metadataSize front) (k .metadata), ltb-false needLimit (need (plateOf front)) (k .needed)))
     cut false e size =
         let other : early front ≡ 0 → ⊥ = eqb-false (early front) 0 e in
         refused-same front rest (omega arith) (omega arith)

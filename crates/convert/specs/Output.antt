@@ -5,11 +5,11 @@ use mathlib.Core.Bool.{Bool, true, false, cond, not, _&&_, _||_}
 use mathlib.Core.List.{List, [], _∷_, _++_}
 use Prim.Native.Nat.{ℕ, _+_, _*_, _/_, _%_, _^_, _≤_}
 use lib.Dec.{eqb, ltb}
-use lib.ListN.{length, drop}
+use lib.ListN.{length, take, drop}
 use Rattle.facts.specs.Checks.{Check, check, firstOf}
 use Rattle.facts.specs.Tab.{tab}
 use Rattle.paint.specs.Sheet.{onSheet}
-use Rattle.pvr.specs.Header.{widthField, heightField, metadataSize, isTwo, payloadOffset, headerChecks}
+use Rattle.pvr.specs.Header.{headerSize, widthField, heightField, metadataSize, isTwo, payloadOffset, headerChecks}
 use Rattle.pvrtc.specs.Picture.{picture, sheetOf, pictureTexel}
 use Rattle.pvrtc.specs.Refusals.{need, zeroSide, dataChecks, gridChecks}
 use Rattle.pvrtc.specs.declared.Picture.{Picture}
@@ -22,9 +22,21 @@ plateOf file = picture (widthField file) (heightField file) (isTwo file)
 abbrev pub levelData : List ℕ → List ℕ
 levelData file = drop (payloadOffset file) file
 
+-- The most metadata that the program takes: 4,096 bytes.
+abbrev pub metadataLimit : ℕ
+metadataLimit = 4096
+
+-- The largest need that it takes: 32,768 bytes.
+abbrev pub needLimit : ℕ
+needLimit = 32768
+
+-- So many bytes of a file are read, and no more: the header, the most metadata and the largest need.
+abbrev pub readLimit : ℕ
+readLimit = headerSize + metadataLimit + needLimit
+
 -- The metadata is above 4,096 bytes.
 abbrev pub longMetadata : (metadata : ℕ) → Bool
-longMetadata metadata = ltb 4096 metadata
+longMetadata metadata = ltb metadataLimit metadata
 
 -- A side is above 1,024.
 abbrev pub longSide : Picture → Bool
@@ -32,7 +44,7 @@ longSide p = ltb 1024 (p .width) || ltb 1024 (p .height)
 
 -- The need is above 32,768 bytes.
 abbrev pub largeNeed : Picture → Bool
-largeNeed p = ltb 32768 (need p)
+largeNeed p = ltb needLimit (need p)
 
 -- The program's own limits on a plate with so many bytes of metadata.
 abbrev pub limitChecks : Picture → (metadata : ℕ) → List Check
@@ -96,6 +108,10 @@ written n p d = cond (eqb n 0) (tga p d) (refusedLine n)
 -- What the program writes for a file.
 abbrev pub output : List ℕ → List ℕ
 output file = written (programRefusal file) (plateOf file) (levelData file)
+
+-- So many bytes are enough: no later byte of a file has an effect.
+abbrev pub EnoughRead : Type 0
+EnoughRead = (file : List ℕ) → output (take readLimit file) ≡ output file
 
 -- Lent bytes with these in front: these, followed by the rest as it was.
 abbrev pub laid : List ℕ → List ℕ → List ℕ
