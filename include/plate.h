@@ -9,6 +9,11 @@
  *  11  a file shorter than its header          13  a pixel format other than 0 to 3
  *  12  not a PVR version 3 file                14  depth, surfaces or faces not 1, or no level
  *
+ * The program `plate` has three more, which no call answers. All of these words stand in docs/refusals.txt too, for the program to say.
+ *
+ *  21  metadata above 4,096 bytes              23  a need above 32,768 bytes
+ *  22  a side is above 1,024
+ *
  * A texel is blue + 256 green + 65,536 red + 16,777,216 alpha.
  */
 #ifndef PLATE_H
