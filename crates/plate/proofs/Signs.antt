@@ -1,5 +1,4 @@
 -- The sign of what `read` answers tells what it means. Assumes nothing.
--- The machine reads a signed number back from its bits: that is the number itself, since it fits.
 use mathlib.Core.Path.{_≡_, refl, sym, ap, subst, _∙_}
 use mathlib.Core.Bool.{Bool, true, false}
 use Prim.Native.Nat.{zero, suc}
@@ -14,6 +13,7 @@ use borrow.Author.Tests.{ltb-true}
 use Rattle.plate.specs.Input.{meant}
 use Rattle.plate.specs.declared.Read.the-variants.{Bytes, End, Failed}
 
+-- what a number means, by its sign: below 0 a failure, 0 the end, above 0 as many bytes
 below : (z : ℤ) → ltZ z (pos 0) ≡ true → Failed ≡ meant z
 below (pos n) e = absurd (let h = ltb-true n 0 e in omega arith)
 below (negsuc n) e = refl
@@ -28,10 +28,12 @@ some (pos zero) e h = absurd (h refl)
 some (pos (suc n)) e h = refl
 some (negsuc n) e h = absurd (subst (λ (b : Bool). T b) e tt)
 
+-- not below 0, so it can be cast
 above : (z : ℤ) → ltZ z (pos 0) ≡ false → T (nonNeg z)
 above (pos n) e = tt
 above (negsuc n) e = absurd (subst (λ (b : Bool). T b) e tt)
 
+-- the same of what the machine tests, which it reads back from the number's bits
 module _ {z : ℤ} (fits : SFits w64 z) where
   back : toZ w64 (ofZ w64 z) ≡ z
   back = toZ-ofZ fits

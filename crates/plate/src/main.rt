@@ -49,7 +49,7 @@ fn read_at(buf: &mut [u8], at: usize) -> Read
     read_some(&mut buf[at..])
 }
 
-// Reads until buf is full, the input ends or a read fails.
+// Reads until buf is full, the input ends or a read fails. Before the first read, `last` stands for a read of no bytes.
 fn read_input(buf: &mut [u8]) -> Input
     requires { ⌜ length (now buf) ≡ readLimit ⌝ }
     ensures { λ r. ⌜ Stopped r ⌝ }
