@@ -2,7 +2,7 @@
 use mathlib.Core.Path.{_≡_, refl, ap, _∙_}
 use mathlib.Core.Bool.{Bool, true, false}
 use mathlib.Core.List.{List}
-use Prim.Native.Nat.{ℕ, _+_, _*_, _/_, _%_, _≤_, _<_}
+use Prim.Native.Nat.{ℕ, _+_, _*_, _%_, _≤_, _<_}
 use native.Mathlib.Omega.{arith}
 use lib.ListN.{getD, length, getD-replicate}
 use Rattle.facts.specs.Bits.{flags}
@@ -20,7 +20,7 @@ use Rattle.pvrtc.specs.Refusals.{shortImage, outside}
 use Rattle.pvrtc.specs.declared.Call.the-variants as call
 use Rattle.pvrtc.specs.declared.Decoded.the-variants.{Done}
 use Rattle.pvrtc.proofs.Agree.{row-is, block-is}
-use Rattle.demands.specs.Idle.{beside2, below2, lentRow, lentImage, OneColour, FirstBlockAgain, FirstBlocksAgain, FirstRowAgain, NoIdling}
+use Rattle.demands.specs.Idle.{beside2, below2, lentRow, lentImage, FirstBlockAgain, NoIdling}
 use Rattle.demands.specs.Samples.{redBlack}
 use Rattle.demands.proofs.Seen.{answered}
 

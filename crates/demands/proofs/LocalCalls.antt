@@ -2,12 +2,12 @@
 use mathlib.Core.Path.{_≡_, refl, sym, ap, _∙_}
 use mathlib.Core.Bool.{Bool, true, false, not, false≢true}
 use mathlib.Core.List.{List, List·Memᴰ, Memᴰ·cast}
-use Prim.Native.Nat.{ℕ, _+_, _*_, _/_, _%_, _≤_, _<_}
+use Prim.Native.Nat.{ℕ, _*_, _/_, _%_, _≤_, _<_}
 use native.Mathlib.Nat.{mod-lt, div-add-mod'}
 use native.Mathlib.Omega.{arith}
 use lib.Dec.{eqb}
 use lib.ListN.{length, getD}
-use borrow.Author.Tests.{le-ltb, eqb-false, eq-eqb, ne-eqb}
+use borrow.Author.Tests.{le-ltb, eq-eqb, ne-eqb}
 use Rattle.facts.proofs.Count.{count-same, count-le}
 use Rattle.grid.specs.Grid.{half, blockWidth}
 use Rattle.grid.proofs.Counts.{wide}
@@ -23,7 +23,7 @@ use Rattle.pvrtc.proofs.Accepted.{passed, power-across, power-down}
 use Rattle.pvrtc.proofs.Agree.{block-is}
 use Rattle.demands.specs.Footprint.{isIn, SameOutside}
 use Rattle.demands.specs.Local.{Told, Local}
-use Rattle.demands.specs.LocalCalls.{blocksOf, footprintOf, touchedBy, changed, mostTouched, Shown, LocalCalls}
+use Rattle.demands.specs.LocalCalls.{blocksOf, footprintOf, touchedBy, changed, Shown, LocalCalls}
 use Rattle.demands.proofs.Counted.{is-in, in-is, column-in, row-in, touched-at-most, touched-at-least}
 use Rattle.demands.proofs.Damage.{rectangle-size}
 use Rattle.demands.proofs.Local.{covers, local}

@@ -1,24 +1,22 @@
--- Flags, colour space and channel type have no effect on anything that reads a file. Assumes nothing.
+-- Flags, colour space and channel type have no effect on anything that reads a file, nor has what follows level 0. Assumes nothing.
 use mathlib.Core.Path.{_≡_, refl, sym, ap, ap₂, _∙_}
 use mathlib.Core.Bool.{true, false, cond}
 use mathlib.Core.List.{List}
-use mathlib.Core.Logic.{_↔_}
-use Prim.Native.Nat.{ℕ, _+_, _≤_, _<_}
+use Prim.Native.Nat.{ℕ, _+_, _≤_}
 use native.Mathlib.Omega.{arith}
 use lib.Dec.{eqb, leb, ltb}
-use lib.ListN.{length, getD, drop, length-drop}
+use lib.ListN.{length, drop, length-drop}
 use lib.Seq.{ext-getD, getD-drop}
 use borrow.Author.Tests.{le-ltb, le-leb}
-use Rattle.facts.specs.Checks.{firstOf}
-use Rattle.pvr.specs.Header.{headerSize, metadataSize, payloadOffset, headerRefusal}
+use Rattle.pvr.specs.Header.{headerSize, metadataSize, payloadOffset}
 use Rattle.pvr.specs.NoEffect.{hasNoEffect, SameHeader}
 use Rattle.pvr.proofs.NoEffect.{of-one-length, same-format, same-width, same-height, same-payload, same-number, no-effect}
-use Rattle.pvrtc.specs.declared.Picture.{Picture}
 use Rattle.capi.specs.Plate.{headerField}
-use Rattle.convert.specs.Output.{plateOf, levelData, ownChecks, programRefusal, written, output, Answered, Converted}
+use Rattle.convert.specs.Output.{plateOf, levelData, programRefusal, written, output, Converted}
 use Rattle.convert.proofs.Limits.{own-same}
+use Rattle.convert.proofs.Past as past
 use Rattle.convert.proofs.Said.{header-first}
-use Rattle.demands.specs.NoEffect.{SameButFlags, NoEffect}
+use Rattle.demands.specs.NoEffect.{SameButFlags, NoEffect, LaterUnread}
 
 -- what lies past the header has an effect
 past-header : (i : ℕ) → headerSize ≤ i → hasNoEffect i ≡ false
@@ -75,3 +73,6 @@ nothing-else f g s =
         λ a. record { done = λ e. same-laid (turned s) (a .done e); too-little = a .too-little },
       );
     }
+
+pub later-unread : LaterUnread
+later-unread = past.later-unread

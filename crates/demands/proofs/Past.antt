@@ -1,16 +1,16 @@
 -- Data past the need has no effect on an outcome, and what C calls has the calls' outcomes. Assumes nothing.
-use mathlib.Core.Path.{_≡_, refl, sym, ap, ap₂, _∙_}
+use mathlib.Core.Path.{_≡_, refl, sym, ap, _∙_}
 use mathlib.Core.Bool.{Bool, true, false, cond}
 use mathlib.Core.List.{List, _++_}
 use mathlib.Core.Logic.{_↔_}
-use Prim.Native.Nat.{ℕ, _+_, _*_, _≤_, _<_}
+use Prim.Native.Nat.{ℕ, _+_, _≤_}
 use native.Mathlib.Omega.{arith}
 use lib.Dec.{eqb}
 use lib.ListN.{length}
 use borrow.Author.Tests.{eqb-true}
 use Rattle.paint.specs.Paint.{painted}
 use Rattle.paint.proofs.Painted.{painted-same}
-use Rattle.pvrtc.specs.Calls.{refusal, TexelRead, Written, RowDecoded, BlockDecoded}
+use Rattle.pvrtc.specs.Calls.{refusal, Written}
 use Rattle.pvrtc.specs.Picture.{pictureTexel}
 use Rattle.pvrtc.specs.Refusals.{need}
 use Rattle.pvrtc.specs.declared.Call.{Call}

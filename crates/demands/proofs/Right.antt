@@ -1,10 +1,7 @@
 -- Demand 2: whatever call gives it, a texel is Khronos's. Assumes nothing.
 use mathlib.Core.Path.{_∙_}
-use mathlib.Core.List.{List}
-use Prim.Native.Nat.{ℕ}
 use Rattle.khronos.proofs.IsKhronos.{is-khronos}
 use Rattle.pvrtc.proofs.Accepted.{power-across, power-down, few-across, few-down}
-use Rattle.pvrtc.specs.declared.Picture.{Picture}
 use Rattle.demands.specs.Right.{Right}
 use Rattle.demands.proofs.Seen.{seen}
 

@@ -1,5 +1,4 @@
 -- The table's address is the bit-by-bit one at every place of every accepted picture. Assumes nothing.
-use Prim.Native.Nat.{ℕ}
 use lib.ListN.{length}
 use Rattle.grid.proofs.Address.{placed}
 use Rattle.grid.proofs.Interleave.{interleaved}

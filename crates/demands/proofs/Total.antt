@@ -1,9 +1,8 @@
 -- Demand 1 over the calls: one outcome, its number, and every lent word. Assumes nothing.
 use mathlib.Core.Path.{_≡_, refl, sym, ap, ap₂, _∙_}
-use mathlib.Core.Bool.{Bool, cond}
+use mathlib.Core.Bool.{cond}
 use mathlib.Core.List.{List, _++_}
-use mathlib.Core.Logic.{_↔_}
-use Prim.Native.Nat.{ℕ, _+_, _*_, _/_, _%_, _≤_, _<_}
+use Prim.Native.Nat.{ℕ, _+_, _*_, _/_, _%_}
 use native.Mathlib.Nat.{mod-eq-of-lt}
 use native.Mathlib.Omega.{arith}
 use lib.Dec.{eqb}
@@ -15,9 +14,9 @@ use Rattle.facts.proofs.Checks.{exactly-when}
 use Rattle.facts.proofs.Tab.{length-tab, tab-same}
 use Rattle.paint.specs.Paint.{painted}
 use Rattle.paint.proofs.Painted.{whole}
-use Rattle.pvrtc.specs.Calls.{refusal, TexelRead, RowDecoded, BlockDecoded}
+use Rattle.pvrtc.specs.Calls.{refusal}
 use Rattle.pvrtc.specs.Picture.{pictureTexel}
-use Rattle.pvrtc.specs.Refusals.{checks, decodedNumber, texelNumber, texelValue}
+use Rattle.pvrtc.specs.Refusals.{checks}
 use Rattle.pvrtc.specs.declared.Call.the-variants as call
 use Rattle.pvrtc.specs.declared.Picture.{Picture}
 use Rattle.pvrtc.proofs.Accepted.{accepted, width-above, row-roomy, block-roomy}

@@ -1,11 +1,11 @@
 -- Khronos's count of blocks and its order of words are document 01's. Assumes nothing.
-use mathlib.Core.Path.{_≡_, refl, sym, ap, ap₂, _∙_}
+use mathlib.Core.Path.{_≡_, refl, ap, ap₂, _∙_}
 use mathlib.Core.Bool.{Bool, true, false, cond}
 use mathlib.Core.Logic.{⊎-elim}
 use Prim.Native.Nat.{ℕ, zero, suc, _+_, _*_, _/_, _%_, _^_, _≤_, _<_, min}
 use native.Mathlib.Nat.{pow-succ', div-one, zero-div}
 use native.Mathlib.Omega.{arith}
-use lib.Dec.{eqb, ltb, eqb→eq}
+use lib.Dec.{eqb, eqb→eq}
 use lib.Pow.{pow-mono}
 use borrow.Author.Tests.{eqb-true, eqb-false}
 use Rattle.facts.proofs.Finite.{below}
@@ -13,7 +13,6 @@ use Rattle.facts.proofs.Numbers.{lt-or-le}
 use Rattle.facts.proofs.Powers.{pow-le-cancel, shift}
 use Rattle.grid.specs.Grid.{blocks, log2, Power, address, blockAddress}
 use Rattle.grid.proofs.Counts.{exact, clipped}
-use Rattle.grid.proofs.Powers.{log2-pow}
 use Rattle.khronos.specs.Agrees.{SameStorage}
 use Rattle.khronos.specs.Khronos.{field}
 use Rattle.khronos.specs.Storage.{blocksAlong, total, sideBits, rowPlace, columnPlace, wordIndex}
