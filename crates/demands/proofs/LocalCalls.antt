@@ -19,11 +19,11 @@ use Rattle.pvrtc.specs.Refusals.{need, zeroSide, largeSide, shortImage, notPowe
 use Rattle.pvrtc.specs.declared.Call.{Call}
 use Rattle.pvrtc.specs.declared.Decoded.the-variants.{Done}
 use Rattle.pvrtc.specs.declared.Picture.{Picture}
-use Rattle.pvrtc.proofs.Accepted.{passed, power-across, power-down}
+use Rattle.pvrtc.proofs.Accepted.{accepted, passed, power-across, power-down}
 use Rattle.pvrtc.proofs.Agree.{block-is}
 use Rattle.demands.specs.Footprint.{isIn, SameOutside}
 use Rattle.demands.specs.Local.{Told, Local}
-use Rattle.demands.specs.LocalCalls.{blocksOf, footprintOf, touchedBy, changed, Shown, LocalCalls}
+use Rattle.demands.specs.LocalCalls.{blocksOf, footprintOf, touchedBy, changed, Shown, LocalCalls, LocalPictures}
 use Rattle.demands.proofs.Counted.{is-in, in-is, column-in, row-in, touched-at-most, touched-at-least}
 use Rattle.demands.proofs.Damage.{rectangle-size}
 use Rattle.demands.proofs.Local.{covers, local}
@@ -106,7 +106,7 @@ module _ (p : Picture) (sides : zeroSide p ≡ false) (small : largeSide p ≡ f
           let texels = unchanged (t .one) (t .other) z (k % p .width) (k / p .width) (t .alone) (λ m. false≢true (sym q ∙ in-is z _ m)) in
           ap not (eq-eqb _ _ (word-is (t .one) a k l ∙ texels ∙ sym (word-is (t .other) b k l))) ∙ sym q
 
-  pub local-calls : LocalCalls p
+  local-calls : LocalCalls p
   local-calls =
       record {
         some = here .some;
@@ -122,6 +122,7 @@ module _ (p : Picture) (sides : zeroSide p ≡ false) (small : largeSide p ≡ f
             });
         enough = λ x y v w d d' same a b. seen p d x y v a .is ∙ here .enough x y d d' same ∙ sym (seen p d' x y w b .is);
         needed = shown;
+        size = here .size;
         only = λ x y z v w d d' same a b differ.
             let s = seen p d x y v a in
             here .only z d d' same x y (s .across) (s .down) (λ e. differ (s .is ∙ e ∙ sym (seen p d' x y w b .is)));
@@ -129,3 +130,8 @@ module _ (p : Picture) (sides : zeroSide p ≡ false) (small : largeSide p ≡ f
         at-most = λ z. omega (arith, touched-at-most here z, rectangle-size two);
         exactly = λ whole z lz. omega (arith, touched-at-most here z, touched-at-least here z whole lz, rectangle-size two);
       }
+
+pub local-pictures : LocalPictures
+local-pictures p c d e =
+    let ok = accepted p c (length d) e in
+    local-calls p (ok .sides) (ok .small) (ok .powers)

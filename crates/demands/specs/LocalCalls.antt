@@ -64,7 +64,7 @@ pub record Shown (p : Picture) (z : ℕ) : Type 0 where
   -- So every touched word of the picture changes.
   pub changes : (old new old' new' : List ℕ) → BlockDecoded p one old new Done → BlockDecoded p other old' new' Done → changed p new new' ≡ touchedBy p z
 
--- For a picture whose sizes are accepted.
+-- What demand 3 says of a picture.
 pub record LocalCalls (p : Picture) : Type 0 where
   -- A footprint has one to four blocks.
   pub some : (x y : ℕ) → 1 ≤ length (footprintOf p x y)
@@ -79,12 +79,17 @@ pub record LocalCalls (p : Picture) : Type 0 where
       → Gives p d x y v → Gives p d' x y w → v ≡ w
   -- And each of them matters.
   pub needed : (z : ℕ) → z < blocksOf p → Shown p z
-  -- So damage in block z touches no texel outside its rectangle.
+  -- So damage in block z touches no texel outside its rectangle, which has 49 places at 4bpp, 105 at 2bpp.
+  pub size : (z : ℕ) → length (damagedBy p z) ≡ mostTouched (p .is2bpp)
   pub only : (x y z v w : ℕ) (d d' : List ℕ) → SameOutside (blocksOf p) d d' z → Gives p d x y v → Gives p d' x y w
       → (v ≡ w → ⊥) → List·Memᴰ (spot x y) (damagedBy p z)
-  -- It changes no more words of the picture than there are texels with z in their footprint: at most 49 at 4bpp, 105 at 2bpp.
+  -- It changes no more words of the picture than there are texels with z in their footprint, and these are at most so many.
   pub no-more : (z : ℕ) (d d' old new old' new' : List ℕ) → SameOutside (blocksOf p) d d' z
       → BlockDecoded p d old new Done → BlockDecoded p d' old' new' Done → changed p new new' ≤ touchedBy p z
   pub at-most : (z : ℕ) → touchedBy p z ≤ mostTouched (p .is2bpp)
   -- In an unclipped picture with at least two blocks each way, exactly so many.
   pub exactly : WholePicture p → (z : ℕ) → z < blocksOf p → touchedBy p z ≡ mostTouched (p .is2bpp)
+
+-- So it is for every picture that some call accepts.
+abbrev pub LocalPictures : Type 0
+LocalPictures = (p : Picture) (c : Call) (d : List ℕ) → refusal p c d ≡ 0 → LocalCalls p
