@@ -6,6 +6,7 @@ use Prim.Native.Nat.{ℕ, zero, suc, _<_, _≤_}
 use native.Mathlib.Omega.{arith}
 use lib.Dec.{eqb}
 use borrow.Author.Tests.{ne-eqb}
+use Rattle.facts.specs.Checks.{Check}
 use Rattle.pvrtc.specs.declared.Decoded.{Decoded}
 use Rattle.pvrtc.specs.declared.Decoded.the-variants as decoded
 use Rattle.pvrtc.specs.declared.Picture.{Picture}
@@ -16,7 +17,7 @@ use Rattle.pvrtc.specs.declared.Texel.the-variants as texel
 use Rattle.pvrtc.specs.declared.Call.the-variants as call
 use Rattle.pvrtc.specs.Calls.{refusal, TexelRead, Written}
 use Rattle.pvrtc.specs.Picture.{pictureTexel}
-use Rattle.pvrtc.specs.Refusals.{numberOf, decodedNumber, texelNumber, texelValue}
+use Rattle.pvrtc.specs.Refusals.{numberOf, decodedNumber, texelNumber, texelValue, Says}
 
 -- a refusal's number is 1 to 6
 number-range : (f : Refusal) → (0 < numberOf f) × (numberOf f ≤ 6)
@@ -61,6 +62,10 @@ same-decoded decoded.Done decoded.Done e = refl
 same-decoded decoded.Done (decoded.Refused g) e = absurd (omega (arith, number-above g))
 same-decoded (decoded.Refused f) decoded.Done e = absurd (omega (arith, number-above f))
 same-decoded (decoded.Refused f) (decoded.Refused g) e = ap decoded.Refused (same-refusal f g e)
+
+-- so that one answer says what a list of checks says: `check`, and each group of it
+pub one-said : (l : List Check) (r s : Decoded) → Says r l → Says s l → r ≡ s
+one-said l r s a b = same-decoded r s (a ∙ sym b)
 
 -- with the same number and the same word too
 pub same-texel : (r s : Texel) → texelNumber r ≡ texelNumber s → texelValue r ≡ texelValue s → r ≡ s
