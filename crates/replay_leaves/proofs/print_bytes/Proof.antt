@@ -4,8 +4,8 @@ use Prim.Native.Nat.{_-_}
 use native.Mathlib.Omega.{arith}
 use lib.ListN.{length}
 use borrow.Author.Needs.{needs}
-use Rattle.replay_leaves.proofs.words.print_bytes.Statement.{statement}
-use Rattle.replay_leaves.proofs.words.print_bytes.Tie as tie
+use Rattle.replay_leaves.proofs.print_bytes.Statement.{statement}
+use Rattle.replay_leaves.proofs.print_bytes.Tie as tie
 
 abbrev Inv-loop : tie.InvT-loop
 Inv-loop bytes i₀ i-end i = i-end ≡ length bytes

@@ -1,8 +1,8 @@
 -- `print_grid` is safe and ends. The measure is the number of rows that are left. Assumes nothing.
 use Prim.Native.Nat.{_-_}
 use native.Mathlib.Omega.{arith}
-use Rattle.replay_leaves.proofs.grids.print_grid.Statement.{statement}
-use Rattle.replay_leaves.proofs.grids.print_grid.Tie as tie
+use Rattle.replay_leaves.proofs.print_grid.Statement.{statement}
+use Rattle.replay_leaves.proofs.print_grid.Tie as tie
 
 abbrev Inv-loop : tie.InvT-loop
 Inv-loop across down by-table y₀ y = Unit {0}

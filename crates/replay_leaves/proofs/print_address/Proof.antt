@@ -3,8 +3,8 @@ use mathlib.Core.Path.{sym, _∙_}
 use native.Mathlib.Omega.{arith}
 use borrow.Author.Needs.{needs}
 use Rattle.grid.proofs.Powers.{is-power}
-use Rattle.replay_leaves.proofs.grids.print_address.Statement.{statement}
-use Rattle.replay_leaves.proofs.grids.print_address.Tie as tie
+use Rattle.replay_leaves.proofs.print_address.Statement.{statement}
+use Rattle.replay_leaves.proofs.print_address.Tie as tie
 
 least-requires : tie.Need-least-requires
 least-requires c κs = search needs

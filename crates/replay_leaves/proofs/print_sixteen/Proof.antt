@@ -2,8 +2,8 @@
 use mathlib.Core.Path.{sym}
 use lib.Seq.{length-take-le}
 use borrow.Author.Needs.{needs}
-use Rattle.replay_leaves.proofs.words.print_sixteen.Statement.{statement}
-use Rattle.replay_leaves.proofs.words.print_sixteen.Tie as tie
+use Rattle.replay_leaves.proofs.print_sixteen.Statement.{statement}
+use Rattle.replay_leaves.proofs.print_sixteen.Tie as tie
 
 slice-aggregate-print-bytes : tie.Need-slice-aggregate-print-bytes
 slice-aggregate-print-bytes c = sym (length-take-le 16 (c .before .before .before .args .bytes .now) (c .before .if1 .taken))

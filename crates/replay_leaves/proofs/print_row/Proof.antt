@@ -1,8 +1,8 @@
 -- `print_row` is safe and ends. The measure is the number of blocks that are left. Assumes nothing.
 use Prim.Native.Nat.{_-_}
 use native.Mathlib.Omega.{arith}
-use Rattle.replay_leaves.proofs.grids.print_row.Statement.{statement}
-use Rattle.replay_leaves.proofs.grids.print_row.Tie as tie
+use Rattle.replay_leaves.proofs.print_row.Statement.{statement}
+use Rattle.replay_leaves.proofs.print_row.Tie as tie
 
 abbrev Inv-loop : tie.InvT-loop
 Inv-loop y across side by-table x₀ x = Unit {0}

@@ -1,8 +1,8 @@
 -- `print_chosen_words` is safe and ends. The measure is the number of words that are left. Assumes nothing.
 use Prim.Native.Nat.{_-_}
 use native.Mathlib.Omega.{arith}
-use Rattle.replay_leaves.proofs.words.print_chosen_words.Statement.{statement}
-use Rattle.replay_leaves.proofs.words.print_chosen_words.Tie as tie
+use Rattle.replay_leaves.proofs.print_chosen_words.Statement.{statement}
+use Rattle.replay_leaves.proofs.print_chosen_words.Tie as tie
 
 abbrev Inv-loop : tie.InvT-loop
 Inv-loop i₀ i = Unit {0}
