@@ -1,12 +1,10 @@
 // Prints what `plate` writes for some two hundred files, each a plain one with something changed. What it must print, in the file `stdout`,
-// was written by tools/plates.
-mod build;
-mod show;
+// was written by tools/replay_plates. It is one module, since what a function prints is nothing that it could promise.
 mod tables;
 
 fn main() {
     let mut bytes = [0u8; 40000];
-    build::fill(&mut bytes);
+    fill_data(&mut bytes);
     print_cuts(&mut bytes);
     print_fields(&mut bytes);
     print_ends(&mut bytes);
@@ -22,9 +20,9 @@ fn print_cuts(bytes: &mut [u8]) {
 }
 
 fn print_cut(bytes: &mut [u8], len: usize) {
-    build::set_plain(bytes);
-    show::print_name(b"cut", len as u64);
-    show::print_converted(bytes, len);
+    set_plain(bytes);
+    print_name(b"cut", len as u64);
+    print_converted(bytes, len);
 }
 
 // A field of the header with another value.
@@ -36,11 +34,11 @@ fn print_fields(bytes: &mut [u8]) {
 }
 
 fn print_field(bytes: &mut [u8], at: u32, v: u32) {
-    build::set_plain(bytes);
-    build::set_u32(bytes, at, v);
-    show::print_name(b"place", at as u64);
-    show::print_name(b" has", v as u64);
-    show::print_converted(bytes, 40000);
+    set_plain(bytes);
+    set_u32(bytes, at, v);
+    print_name(b"place", at as u64);
+    print_name(b" has", v as u64);
+    print_converted(bytes, 40000);
 }
 
 // Much metadata, and a file that ends in it or in the data behind it.
@@ -52,11 +50,11 @@ fn print_ends(bytes: &mut [u8]) {
 }
 
 fn print_end(bytes: &mut [u8], metadata: u32, end: u32) {
-    build::set_plain(bytes);
-    build::set_u32(bytes, 48, metadata);
-    show::print_name(b"metadata", metadata as u64);
-    show::print_name(b", cut", end as u64);
-    show::print_converted(bytes, end as usize);
+    set_plain(bytes);
+    set_u32(bytes, 48, metadata);
+    print_name(b"metadata", metadata as u64);
+    print_name(b", cut", end as u64);
+    print_converted(bytes, end as usize);
 }
 
 // A format and two sides, behind as much metadata as is allowed.
@@ -68,14 +66,14 @@ fn print_sizes(bytes: &mut [u8]) {
 }
 
 fn print_size(bytes: &mut [u8], format: u32, width: u32, height: u32) {
-    build::set_plain(bytes);
-    build::set_u32(bytes, 8, format);
-    build::set_sides(bytes, width, height);
-    build::set_u32(bytes, 48, 4096);
-    show::print_name(b"format", format as u64);
-    show::print_name(b", size", width as u64);
-    show::print_name(b" x", height as u64);
-    show::print_converted(bytes, 40000);
+    set_plain(bytes);
+    set_u32(bytes, 8, format);
+    set_sides(bytes, width, height);
+    set_u32(bytes, 48, 4096);
+    print_name(b"format", format as u64);
+    print_name(b", size", width as u64);
+    print_name(b" x", height as u64);
+    print_converted(bytes, 40000);
 }
 
 // Every two refusals at once.
@@ -95,10 +93,112 @@ fn print_with(bytes: &mut [u8], i: usize) {
 
 // A plain file with two faults. The one that is later in the order comes in first.
 fn print_two(bytes: &mut [u8], first: u64, second: u64) {
-    build::set_plain(bytes);
-    build::bring(bytes, second);
-    build::bring(bytes, first);
-    show::print_name(b"faults", first);
-    show::print_name(b" and", second);
-    show::print_converted(bytes, facts::least(build::end(first), build::end(second)));
+    set_plain(bytes);
+    bring(bytes, second);
+    bring(bytes, first);
+    print_name(b"faults", first);
+    print_name(b" and", second);
+    print_converted(bytes, facts::least(end_of(first), end_of(second)));
+}
+
+// Puts v at place i, if there is one.
+fn set_byte(bytes: &mut [u8], i: usize, v: u8) {
+    if i < bytes.len() {
+        bytes[i] = v;
+    }
+}
+
+// Puts bytes behind the header: byte i by the rule (37i + 11) % 251.
+fn fill_data(bytes: &mut [u8]) {
+    for i in 52..40000 {
+        set_byte(bytes, i, ((37 * i + 11) % 251) as u8);
+    }
+}
+
+// Puts v at `at`, four bytes, little-endian.
+fn set_u32(bytes: &mut [u8], at: u32, v: u32) {
+    let i = at as usize;
+    set_byte(bytes, i, (v % 256) as u8);
+    set_byte(bytes, i + 1, (v / 256 % 256) as u8);
+    set_byte(bytes, i + 2, (v / 65536 % 256) as u8);
+    set_byte(bytes, i + 3, (v / 16777216 % 256) as u8);
+}
+
+fn set_sides(bytes: &mut [u8], width: u32, height: u32) {
+    set_u32(bytes, 24, height);
+    set_u32(bytes, 28, width);
+}
+
+// The header of a plate that nothing refuses.
+fn set_plain(bytes: &mut [u8]) {
+    let t = tables::PLAIN;
+    for i in 0..13 {
+        set_u32(bytes, 4 * (i as u32), t[i]);
+    }
+}
+
+// Brings in what a refusal is given for. One that asks a side may undo another that does.
+fn bring(bytes: &mut [u8], fault: u64) {
+    match fault {
+        12 => set_u32(bytes, 0, 0x03525600),
+        13 => set_u32(bytes, 8, 4),
+        14 => set_u32(bytes, 32, 2),
+        21 => set_u32(bytes, 48, 4097),
+        1 => set_u32(bytes, 24, 0),
+        22 => set_u32(bytes, 28, 1025),
+        23 => set_sides(bytes, 1000, 1000),
+        5 => set_sides(bytes, 12, 8),
+        _ => {}
+    }
+}
+
+// Where a file with this fault ends.
+fn end_of(fault: u64) -> usize {
+    match fault {
+        11 => 51,
+        3 => 83,
+        _ => 40000,
+    }
+}
+
+// A checksum of bytes.
+fn sum_of(bytes: &[u8]) -> u64 {
+    let mut s: u64 = 0;
+    for i in 0..bytes.len() {
+        s = with_byte(s, bytes[i]);
+    }
+    s
+}
+
+fn with_byte(s: u64, byte: u8) -> u64 {
+    ((s % 2147483647) * 31 + (byte as u64)) % 2147483647
+}
+
+// A refusal's line as it is; of a picture, how many bytes and their checksum.
+fn print_output(bytes: &[u8]) {
+    if bytes.len() < 12 {
+        io::write_all(1, bytes);
+    } else {
+        io::print_decimal(1, bytes.len() as u64);
+        io::write_all(1, b" bytes, sum ");
+        io::print_decimal(1, sum_of(bytes));
+        io::write_all(1, b"\n");
+    }
+}
+
+// What is written for the first `len` bytes of a file.
+fn print_converted(bytes: &[u8], len: usize) {
+    io::write_all(1, b": ");
+    let mut image = [0u32; 131072];
+    let mut out = [0u8; 524306];
+    let end = facts::least(len, bytes.len());
+    let r = convert::convert(&bytes[..end], &mut image, &mut out);
+    print_output(&out[..r]);
+}
+
+// A name and a number of a line.
+fn print_name(name: &[u8], n: u64) {
+    io::write_all(1, name);
+    io::write_all(1, b" ");
+    io::print_decimal(1, n);
 }

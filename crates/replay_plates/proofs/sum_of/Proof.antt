@@ -1,9 +1,9 @@
--- `replay_plates::show::sum` is safe and ends. Assumes nothing.
+-- `replay_plates::sum_of` is safe and ends. Assumes nothing.
 use Prim.Native.Nat.{_-_, _≤_}
 use lib.ListN.{length}
 use borrow.Author.Needs.{needs}
-use Rattle.replay_plates.proofs.show.sum.Statement.{statement}
-use Rattle.replay_plates.proofs.show.sum.Tie as tie
+use Rattle.replay_plates.proofs.sum_of.Statement.{statement}
+use Rattle.replay_plates.proofs.sum_of.Tie as tie
 
 abbrev Inv-loop : tie.InvT-loop
 Inv-loop bytes s₀ i₀ i-end s i = (i ≤ length bytes)
@@ -14,11 +14,11 @@ abbrev μ-loop : tie.MeasureT-loop
 loop-holds : tie.Need-loop-holds Inv-loop μ-loop
 loop-holds c = search needs
 
-shared-slice-read-next : tie.Need-shared-slice-read-next Inv-loop μ-loop
-shared-slice-read-next c = search needs
+shared-slice-read-with-byte : tie.Need-shared-slice-read-with-byte Inv-loop μ-loop
+shared-slice-read-with-byte c = search needs
 
-next-requires : tie.Need-next-requires Inv-loop μ-loop
-next-requires c κs = search needs
+with-byte-requires : tie.Need-with-byte-requires Inv-loop μ-loop
+with-byte-requires c κs = search needs
 
 add-i : tie.Need-add-i Inv-loop μ-loop
 add-i c = search needs
@@ -32,15 +32,15 @@ loop-again c = search needs
 returns : tie.Need-returns Inv-loop μ-loop
 returns c = search needs
 
-pub sum-spec : {M : Type 1} → statement M
-sum-spec =
+pub sum-of-spec : {M : Type 1} → statement M
+sum-of-spec =
     tie.close
     (tie.spec
     Inv-loop
     μ-loop
     loop-holds
-    shared-slice-read-next
-    next-requires
+    shared-slice-read-with-byte
+    with-byte-requires
     add-i
     loop-less
     loop-again

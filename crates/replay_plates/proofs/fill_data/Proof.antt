@@ -1,10 +1,10 @@
--- `replay_plates::build::fill` is safe and ends. Assumes nothing.
+-- `replay_plates::fill_data` is safe and ends. Assumes nothing.
 use mathlib.Core.Path.{_≡_}
 use Prim.Native.Nat.{_-_, _≤_}
 use lib.ListN.{length}
 use borrow.Author.Needs.{needs}
-use Rattle.replay_plates.proofs.build.fill.Statement.{statement}
-use Rattle.replay_plates.proofs.build.fill.Tie as tie
+use Rattle.replay_plates.proofs.fill_data.Statement.{statement}
+use Rattle.replay_plates.proofs.fill_data.Tie as tie
 
 abbrev Inv-loop : tie.InvT-loop
 Inv-loop bytes₀ i₀ bytes i = (i ≤ 40000) × (length bytes ≡ length bytes₀)
@@ -15,17 +15,17 @@ abbrev μ-loop : tie.MeasureT-loop
 loop-holds : tie.Need-loop-holds Inv-loop μ-loop
 loop-holds c = search needs
 
-mul-set : tie.Need-mul-set Inv-loop μ-loop
-mul-set c = search needs
+mul-set-byte : tie.Need-mul-set-byte Inv-loop μ-loop
+mul-set-byte c = search needs
 
-add-set : tie.Need-add-set Inv-loop μ-loop
-add-set c = search needs
+add-set-byte : tie.Need-add-set-byte Inv-loop μ-loop
+add-set-byte c = search needs
 
-cast-set : tie.Need-cast-set Inv-loop μ-loop
-cast-set c = search needs
+cast-set-byte : tie.Need-cast-set-byte Inv-loop μ-loop
+cast-set-byte c = search needs
 
-set-requires : tie.Need-set-requires Inv-loop μ-loop
-set-requires c κs = search needs
+set-byte-requires : tie.Need-set-byte-requires Inv-loop μ-loop
+set-byte-requires c κs = search needs
 
 add-i : tie.Need-add-i Inv-loop μ-loop
 add-i c = search needs
@@ -42,17 +42,17 @@ same-length c = search needs
 returns : tie.Need-returns Inv-loop μ-loop
 returns c = search needs
 
-pub fill-spec : {M : Type 1} → statement M
-fill-spec =
+pub fill-data-spec : {M : Type 1} → statement M
+fill-data-spec =
     tie.close
     (tie.spec
     Inv-loop
     μ-loop
     loop-holds
-    mul-set
-    add-set
-    cast-set
-    set-requires
+    mul-set-byte
+    add-set-byte
+    cast-set-byte
+    set-byte-requires
     add-i
     loop-less
     loop-again

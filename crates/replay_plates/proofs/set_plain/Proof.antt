@@ -1,10 +1,10 @@
--- `replay_plates::build::set_plain` is safe and ends. Assumes nothing.
+-- `replay_plates::set_plain` is safe and ends. Assumes nothing.
 use mathlib.Core.Path.{_≡_}
 use Prim.Native.Nat.{_-_, _≤_}
 use lib.ListN.{length}
 use borrow.Author.Needs.{needs}
-use Rattle.replay_plates.proofs.build.set_plain.Statement.{statement}
-use Rattle.replay_plates.proofs.build.set_plain.Tie as tie
+use Rattle.replay_plates.proofs.set_plain.Statement.{statement}
+use Rattle.replay_plates.proofs.set_plain.Tie as tie
 
 abbrev Inv-loop : tie.InvT-loop
 Inv-loop bytes₀ t i₀ bytes i = (i ≤ 13) × (length bytes ≡ length bytes₀)

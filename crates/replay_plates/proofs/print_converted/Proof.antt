@@ -1,12 +1,12 @@
--- `replay_plates::show::print_converted` is safe and ends: the lent words and bytes are enough, and what is printed lies within them. Assumes nothing.
+-- `replay_plates::print_converted` is safe and ends: the lent words and bytes are enough, and what is printed lies within them. Assumes nothing.
 use mathlib.Core.Path.{sym}
 use native.Mathlib.Nat.{le-of-eq}
 use native.Mathlib.Omega.{arith}
 use lib.Seq.{length-take-le}
 use Rattle.convert.proofs.Said.{within-out}
 use borrow.Author.Needs.{needs}
-use Rattle.replay_plates.proofs.show.print_converted.Statement.{statement}
-use Rattle.replay_plates.proofs.show.print_converted.Tie as tie
+use Rattle.replay_plates.proofs.print_converted.Statement.{statement}
+use Rattle.replay_plates.proofs.print_converted.Tie as tie
 
 slice-aggregate-write-all : tie.Need-slice-aggregate-write-all
 slice-aggregate-write-all c = search needs
