@@ -2,8 +2,8 @@
 use native.Mathlib.Omega.{arith}
 use lib.ListN.{length-take}
 use borrow.Author.Needs.{needs}
-use Rattle.replay_pictures.proofs.call.print_call.Statement.{statement}
-use Rattle.replay_pictures.proofs.call.print_call.Tie as tie
+use Rattle.replay_pictures.proofs.print_call.Statement.{statement}
+use Rattle.replay_pictures.proofs.print_call.Tie as tie
 
 least-requires : tie.Need-least-requires
 least-requires c κs = search needs

@@ -1,8 +1,8 @@
 -- `print_one_way` is safe and ends. The measure is the number of sides that are left. Assumes nothing.
 use Prim.Native.Nat.{_-_}
 use native.Mathlib.Omega.{arith}
-use Rattle.replay_pictures.proofs.picture_calls.print_one_way.Statement.{statement}
-use Rattle.replay_pictures.proofs.picture_calls.print_one_way.Tie as tie
+use Rattle.replay_pictures.proofs.print_one_way.Statement.{statement}
+use Rattle.replay_pictures.proofs.print_one_way.Tie as tie
 
 abbrev Inv-loop : tie.InvT-loop
 Inv-loop «data» is2bpp side₀ side = Unit {0}
@@ -13,11 +13,11 @@ abbrev μ-loop : tie.MeasureT-loop
 loop-holds : tie.Need-loop-holds Inv-loop μ-loop
 loop-holds c = tt
 
-print-call-requires : tie.Need-print-call-requires Inv-loop μ-loop
-print-call-requires c κs = tt
+print-both-requires : tie.Need-print-both-requires Inv-loop μ-loop
+print-both-requires c κs = tt
 
-print-call-requires-2 : tie.Need-print-call-requires-2 Inv-loop μ-loop
-print-call-requires-2 c κs = tt
+print-both-requires-2 : tie.Need-print-both-requires-2 Inv-loop μ-loop
+print-both-requires-2 c κs = tt
 
 add-side : tie.Need-add-side Inv-loop μ-loop
 add-side c = omega arith
@@ -38,8 +38,8 @@ print-one-way-spec =
     Inv-loop
     μ-loop
     loop-holds
-    print-call-requires
-    print-call-requires-2
+    print-both-requires
+    print-both-requires-2
     add-side
     loop-less
     loop-again

@@ -3,8 +3,8 @@ use mathlib.Core.Path.{_≡_, refl}
 use Prim.Native.Nat.{_-_}
 use native.Mathlib.Omega.{arith}
 use lib.ListN.{length, length-set}
-use Rattle.replay_pictures.proofs.draw.fill_words.Statement.{statement}
-use Rattle.replay_pictures.proofs.draw.fill_words.Tie as tie
+use Rattle.replay_pictures.proofs.fill_words.Statement.{statement}
+use Rattle.replay_pictures.proofs.fill_words.Tie as tie
 
 abbrev Inv-loop : tie.InvT-loop
 Inv-loop words₀ state reached₀ i₀ words reached i = length words ≡ length words₀

@@ -2,8 +2,8 @@
 use Prim.Native.Nat.{_-_}
 use native.Mathlib.Omega.{arith}
 use lib.ListN.{length}
-use Rattle.replay_pictures.proofs.sum.sum_of.Statement.{statement}
-use Rattle.replay_pictures.proofs.sum.sum_of.Tie as tie
+use Rattle.replay_pictures.proofs.sum_of.Statement.{statement}
+use Rattle.replay_pictures.proofs.sum_of.Tie as tie
 
 abbrev Inv-loop : tie.InvT-loop
 Inv-loop words sum₀ i₀ sum i = Unit {0}

@@ -3,8 +3,8 @@ use mathlib.Core.Path.{_≡_, refl}
 use Prim.Native.Nat.{_-_}
 use native.Mathlib.Omega.{arith}
 use lib.ListN.{length, length-set}
-use Rattle.replay_pictures.proofs.draw.fill_bytes.Statement.{statement}
-use Rattle.replay_pictures.proofs.draw.fill_bytes.Tie as tie
+use Rattle.replay_pictures.proofs.fill_bytes.Statement.{statement}
+use Rattle.replay_pictures.proofs.fill_bytes.Tie as tie
 
 abbrev Inv-loop : tie.InvT-loop
 Inv-loop data₀ bytes state reached₀ i₀ «data» reached i = length «data» ≡ length data₀

@@ -1,8 +1,8 @@
 -- `print_each` is safe and ends. The measure is the number of rows that are left. Assumes nothing.
 use Prim.Native.Nat.{_-_}
 use native.Mathlib.Omega.{arith}
-use Rattle.replay_pictures.proofs.rows.print_each.Statement.{statement}
-use Rattle.replay_pictures.proofs.rows.print_each.Tie as tie
+use Rattle.replay_pictures.proofs.print_each.Statement.{statement}
+use Rattle.replay_pictures.proofs.print_each.Tie as tie
 
 abbrev Inv-loop : tie.InvT-loop
 Inv-loop p «data» bytes words state height reached₀ y₀ reached y = Unit {0}
