@@ -2,8 +2,8 @@
 use native.Mathlib.Omega.{arith}
 use lib.ListN.{length-take}
 use borrow.Author.Needs.{needs}
-use Rattle.replay_texels.proofs.calls.print_call.Statement.{statement}
-use Rattle.replay_texels.proofs.calls.print_call.Tie as tie
+use Rattle.replay_texels.proofs.print_call.Statement.{statement}
+use Rattle.replay_texels.proofs.print_call.Tie as tie
 
 picture-of-requires : tie.Need-picture-of-requires
 picture-of-requires c κs = search needs

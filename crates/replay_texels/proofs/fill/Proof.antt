@@ -3,8 +3,8 @@ use mathlib.Core.Path.{_≡_, refl}
 use Prim.Native.Nat.{_-_}
 use native.Mathlib.Omega.{arith}
 use lib.ListN.{length, length-set}
-use Rattle.replay_texels.proofs.draw.fill.Statement.{statement}
-use Rattle.replay_texels.proofs.draw.fill.Tie as tie
+use Rattle.replay_texels.proofs.fill.Statement.{statement}
+use Rattle.replay_texels.proofs.fill.Tie as tie
 
 abbrev Inv-loop : tie.InvT-loop
 Inv-loop data₀ kind state reached₀ i₀ «data» reached i = length «data» ≡ length data₀

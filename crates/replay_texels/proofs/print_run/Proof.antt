@@ -1,8 +1,8 @@
 -- `print_run` is safe and ends. The measure is the number of columns that are left. Assumes nothing.
 use Prim.Native.Nat.{_-_}
 use native.Mathlib.Omega.{arith}
-use Rattle.replay_texels.proofs.places.print_run.Statement.{statement}
-use Rattle.replay_texels.proofs.places.print_run.Tie as tie
+use Rattle.replay_texels.proofs.print_run.Statement.{statement}
+use Rattle.replay_texels.proofs.print_run.Tie as tie
 
 abbrev Inv-loop : tie.InvT-loop
 Inv-loop «data» p left end y x₀ x = Unit {0}

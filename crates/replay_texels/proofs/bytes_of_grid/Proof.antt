@@ -2,8 +2,8 @@
 use native.Mathlib.Nat.{mul-le-mul}
 use native.Mathlib.Omega.{arith}
 use borrow.Author.Needs.{needs}
-use Rattle.replay_texels.proofs.pictures.bytes_of_grid.Statement.{statement}
-use Rattle.replay_texels.proofs.pictures.bytes_of_grid.Tie as tie
+use Rattle.replay_texels.proofs.bytes_of_grid.Statement.{statement}
+use Rattle.replay_texels.proofs.bytes_of_grid.Tie as tie
 
 mul-result : tie.Need-mul-result
 mul-result c = omega (arith, mul-le-mul (c .pre .0) (c .pre .1))

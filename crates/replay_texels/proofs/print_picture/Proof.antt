@@ -2,14 +2,14 @@
 use native.Mathlib.Omega.{arith}
 use lib.ListN.{length-take}
 use borrow.Author.Needs.{needs}
-use Rattle.replay_texels.proofs.pictures.print_picture.Statement.{statement}
-use Rattle.replay_texels.proofs.pictures.print_picture.Tie as tie
+use Rattle.replay_texels.proofs.print_picture.Statement.{statement}
+use Rattle.replay_texels.proofs.print_picture.Tie as tie
 
-picture-of-requires : tie.Need-picture-of-requires
-picture-of-requires c κs = search needs
+array-read-bytes-of : tie.Need-array-read-bytes-of
+array-read-bytes-of c = search needs
 
-print-title-requires : tie.Need-print-title-requires
-print-title-requires c κs = search needs
+array-read-bytes-of-2 : tie.Need-array-read-bytes-of-2
+array-read-bytes-of-2 c = search needs
 
 bytes-of-requires : tie.Need-bytes-of-requires
 bytes-of-requires c κs = search needs
@@ -23,6 +23,9 @@ array-borrow-prefix-data c = search needs
 slice-aggregate-print-drawn : tie.Need-slice-aggregate-print-drawn
 slice-aggregate-print-drawn c = simp length-take (omega arith)
 
+picture-of-requires : tie.Need-picture-of-requires
+picture-of-requires c κs = search needs
+
 print-drawn-requires : tie.Need-print-drawn-requires
 print-drawn-requires c κs = search needs
 
@@ -33,11 +36,12 @@ pub print-picture-spec : {M : Type 1} → statement M
 print-picture-spec =
     tie.close
     (tie.spec
-    picture-of-requires
-    print-title-requires
+    array-read-bytes-of
+    array-read-bytes-of-2
     bytes-of-requires
     least-requires
     array-borrow-prefix-data
     slice-aggregate-print-drawn
+    picture-of-requires
     print-drawn-requires
     returns)

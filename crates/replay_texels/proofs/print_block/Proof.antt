@@ -1,8 +1,8 @@
 -- `print_block` is safe and ends. The measure is the number of rows that are left. Assumes nothing.
 use Prim.Native.Nat.{_-_}
 use native.Mathlib.Omega.{arith}
-use Rattle.replay_texels.proofs.places.print_block.Statement.{statement}
-use Rattle.replay_texels.proofs.places.print_block.Tie as tie
+use Rattle.replay_texels.proofs.print_block.Statement.{statement}
+use Rattle.replay_texels.proofs.print_block.Tie as tie
 
 abbrev Inv-loop : tie.InvT-loop
 Inv-loop «data» p top end y₀ y = Unit {0}
