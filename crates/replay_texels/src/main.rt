@@ -2,7 +2,6 @@
 // the file `stdout`, was written by the Rust. It is one module, since what a function prints is nothing that it could promise.
 mod tables;
 
-ghost use Prim.Native.Nat.{_≤_};
 use pvrtc::Picture;
 use pvrtc::Texel;
 
@@ -59,7 +58,7 @@ fn end_line() {
 }
 
 // Pictures of the listed sizes. As in all of these, the answer is the generator's state afterwards.
-fn print_sizes(sizes: &[[u16; 2]], is2bpp: bool, state: u64) -> u64 {
+fn print_sizes(sizes: &[[u16; 3]], is2bpp: bool, state: u64) -> u64 {
     let mut reached = state;
     for i in 0..sizes.len() {
         reached = print_kinds(sizes[i], is2bpp, reached);
@@ -68,7 +67,7 @@ fn print_sizes(sizes: &[[u16; 2]], is2bpp: bool, state: u64) -> u64 {
 }
 
 // Pictures of one size, with words of each kind.
-fn print_kinds(size: [u16; 2], is2bpp: bool, state: u64) -> u64 {
+fn print_kinds(size: [u16; 3], is2bpp: bool, state: u64) -> u64 {
     let kinds = tables::KINDS;
     let mut reached = state;
     for i in 0..10 {
@@ -79,7 +78,7 @@ fn print_kinds(size: [u16; 2], is2bpp: bool, state: u64) -> u64 {
 }
 
 // The picture's size and depth, and the kind of its words.
-fn print_title(size: [u16; 2], is2bpp: bool, kind: usize) {
+fn print_title(size: [u16; 3], is2bpp: bool, kind: usize) {
     io::write_all(1, b"picture");
     print_size(picture_of(size, is2bpp));
     print_kind(kind);
@@ -104,14 +103,14 @@ fn print_kind(kind: usize) {
 }
 
 // A picture of a size.
-fn picture_of(size: [u16; 2], is2bpp: bool) -> Picture {
+fn picture_of(size: [u16; 3], is2bpp: bool) -> Picture {
     pvrtc::picture_of(size[0] as usize, size[1] as usize, is2bpp)
 }
 
 // One picture's texels at the chosen places.
-fn print_picture(size: [u16; 2], is2bpp: bool, kind: [u64; 2], state: u64) -> u64 {
+fn print_picture(size: [u16; 3], is2bpp: bool, kind: [u64; 2], state: u64) -> u64 {
     let mut data = [0u8; 2048];
-    let n = facts::least(bytes_of(size[0], size[1], is2bpp), 2048);
+    let n = facts::least(size[2] as usize, 2048);
     print_drawn(&mut data[..n], picture_of(size, is2bpp), kind, state)
 }
 
@@ -120,23 +119,6 @@ fn print_drawn(data: &mut [u8], p: Picture, kind: [u64; 2], state: u64) -> u64 {
     let reached = fill(data, kind, state);
     print_places(data, p);
     reached
-}
-
-// The bytes that a picture needs.
-fn bytes_of(width: u16, height: u16, is2bpp: bool) -> usize {
-    let down = (height as usize + 3) / 4;
-    if is2bpp {
-        bytes_of_grid((width as usize + 7) / 8, down)
-    } else {
-        bytes_of_grid((width as usize + 3) / 4, down)
-    }
-}
-
-// Eight bytes for each block.
-fn bytes_of_grid(across: usize, down: usize) -> usize
-    requires { ⌜ (across ≤ 65536) × (down ≤ 65536) ⌝ }
-{
-    8 * (across * down)
 }
 
 // Fills the data with bytes that the generator draws, two a step.

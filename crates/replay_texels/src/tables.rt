@@ -1,38 +1,38 @@
 // The cases.
 
-// Widths and heights of pictures at 4bpp.
-pub const SIZES_4BPP: [[u16; 2]; 13] = [
-    [4, 4],
-    [1, 1],
-    [3, 2],
-    [4, 64],
-    [64, 4],
-    [8, 8],
-    [5, 6],
-    [13, 15],
-    [14, 14],
-    [15, 13],
-    [8, 32],
-    [32, 8],
-    [64, 64],
+// Widths and heights of pictures at 4bpp, and the bytes that they need, eight for each block.
+pub const SIZES_4BPP: [[u16; 3]; 13] = [
+    [4, 4, 8],
+    [1, 1, 8],
+    [3, 2, 8],
+    [4, 64, 128],
+    [64, 4, 128],
+    [8, 8, 32],
+    [5, 6, 32],
+    [13, 15, 128],
+    [14, 14, 128],
+    [15, 13, 128],
+    [8, 32, 128],
+    [32, 8, 128],
+    [64, 64, 2048],
 ];
 
 // The same at 2bpp.
-pub const SIZES_2BPP: [[u16; 2]; 14] = [
-    [8, 4],
-    [1, 1],
-    [3, 2],
-    [8, 64],
-    [64, 4],
-    [16, 8],
-    [13, 5],
-    [29, 13],
-    [30, 14],
-    [31, 15],
-    [25, 16],
-    [16, 32],
-    [64, 8],
-    [128, 64],
+pub const SIZES_2BPP: [[u16; 3]; 14] = [
+    [8, 4, 8],
+    [1, 1, 8],
+    [3, 2, 8],
+    [8, 64, 128],
+    [64, 4, 64],
+    [16, 8, 32],
+    [13, 5, 32],
+    [29, 13, 128],
+    [30, 14, 128],
+    [31, 15, 128],
+    [25, 16, 128],
+    [16, 32, 128],
+    [64, 8, 128],
+    [128, 64, 2048],
 ];
 
 // Kinds of words: the bits of a word that the kind decides, of bits 0 and 20 of the modulation, the mode, and whether A and B are

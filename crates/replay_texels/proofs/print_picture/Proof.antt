@@ -5,14 +5,11 @@ use borrow.Author.Needs.{needs}
 use Rattle.replay_texels.proofs.print_picture.Statement.{statement}
 use Rattle.replay_texels.proofs.print_picture.Tie as tie
 
-array-read-bytes-of : tie.Need-array-read-bytes-of
-array-read-bytes-of c = search needs
+array-read-least : tie.Need-array-read-least
+array-read-least c = search needs
 
-array-read-bytes-of-2 : tie.Need-array-read-bytes-of-2
-array-read-bytes-of-2 c = search needs
-
-bytes-of-requires : tie.Need-bytes-of-requires
-bytes-of-requires c κs = search needs
+cast-least : tie.Need-cast-least
+cast-least c = search needs
 
 least-requires : tie.Need-least-requires
 least-requires c κs = search needs
@@ -36,9 +33,8 @@ pub print-picture-spec : {M : Type 1} → statement M
 print-picture-spec =
     tie.close
     (tie.spec
-    array-read-bytes-of
-    array-read-bytes-of-2
-    bytes-of-requires
+    array-read-least
+    cast-least
     least-requires
     array-borrow-prefix-data
     slice-aggregate-print-drawn
