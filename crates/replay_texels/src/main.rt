@@ -226,7 +226,7 @@ fn last(side: usize) -> usize {
 
 // The calls at one depth: what each refusal is given for, what it goes before, and what is just not refused.
 fn print_calls(is2bpp: bool) {
-    print_listed(&tables::REFUSED_BEFORE, is2bpp);
+    print_listed(&tables::SIDES_AND_DATA, is2bpp);
     print_short_and_outside(is2bpp);
     print_widths(is2bpp);
     print_heights(is2bpp);

@@ -54,7 +54,7 @@ pub const KINDS: [[u64; 2]; 10] = [
 const MOST: usize = 0xffffffffffffffff;
 
 // Calls, each with how many bytes, the width at 4bpp, the width at 2bpp, the height, and the texel asked for.
-pub const REFUSED_BEFORE: [[usize; 6]; 31] = [
+pub const SIDES_AND_DATA: [[usize; 6]; 31] = [
     // a side is 0; also where a side is too large, where 3 blocks stand the other way, and where the texel lies outside
     [8, 0, 0, 4, 0, 0],
     [8, 4, 4, 0, 0, 0],
