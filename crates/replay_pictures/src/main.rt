@@ -120,10 +120,15 @@ fn print_each(p: Picture, data: &[u8], bytes: usize, words: usize, state: u64) -
 fn print_calls(is2bpp: bool) {
     let mut data = [0u8; 262144];
     fill_bytes(&mut data, 262144, 1);
-    print_picture_calls(&tables::PICTURE_CALLS, &data, is2bpp);
-    print_one_way(&data, is2bpp);
-    print_row_calls(&tables::ROW_CALLS, &data, is2bpp);
-    print_picture_calls(&tables::TALL_PICTURE_CALLS, &data, is2bpp);
+    print_listed_calls(&data, is2bpp);
+}
+
+// The listed calls on these bytes.
+fn print_listed_calls(data: &[u8], is2bpp: bool) {
+    print_picture_calls(&tables::PICTURE_CALLS, data, is2bpp);
+    print_one_way(data, is2bpp);
+    print_row_calls(&tables::ROW_CALLS, data, is2bpp);
+    print_picture_calls(&tables::TALL_PICTURE_CALLS, data, is2bpp);
 }
 
 // The listed picture calls.
