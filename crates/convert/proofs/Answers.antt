@@ -3,7 +3,6 @@ use mathlib.Core.Path.{_≡_, sym, ap, _∙_}
 use mathlib.Core.Bool.{false}
 use mathlib.Core.List.{List, _++_}
 use Prim.Native.Nat.{ℕ, _*_, _/_, _%_, _<_, _≤_}
-use native.Mathlib.Nat.{div-add-mod', div-lt-iff-lt-mul, mod-lt}
 use native.Mathlib.Omega.{arith}
 use lib.Dec.{eqb}
 use lib.ListN.{length, getD}
@@ -18,8 +17,7 @@ use Rattle.pvrtc.specs.declared.Refusal.{Refusal}
 use Rattle.pvrtc.specs.Calls.{refusal, BlockDecoded}
 use Rattle.pvrtc.specs.Picture.{pictureTexel}
 use Rattle.pvrtc.specs.Refusals.{numberOf, decodedNumber}
-use Rattle.pvrtc.proofs.Accepted.{width-above}
-use Rattle.pvrtc.proofs.Agree.{block-is}
+use Rattle.pvrtc.proofs.Agree.{word-is}
 use Rattle.pvrtc.proofs.Unique.{number-above}
 use Rattle.convert.specs.Inner.{Laid}
 use Rattle.convert.specs.Output.{limitChecks, ownChecks, refusedLine, byteOf, tgaHeader, tgaOf, tga, written, Answered}
@@ -53,13 +51,6 @@ tga-same w h f g e =
     ap (λ (l : List ℕ). tgaHeader w h ++ l)
     (tab-same (λ i. byteOf (f (i / 4)) (i % 4)) (λ i. byteOf (g (i / 4)) (i % 4)) (4 * (w * h))
     (λ i l. ap (λ (v : ℕ). byteOf v (i % 4)) (e (i / 4) (omega arith))))
-
--- word k of a decoded picture is texel (k % width, k / width)
-words-are : (p : Picture) (d : List ℕ) {image image' : List ℕ} → 0 < p .width → BlockDecoded p d image image' Done
-    → (k : ℕ) → k < p .width * p .height → getD image' k 0 ≡ pictureTexel p d (k % p .width) (k / p .width)
-words-are p d {image} {image'} pos b k l =
-    ap (λ (i : ℕ). getD image' i 0) (sym (div-add-mod' k (p .width)))
-    ∙ block-is p d (k % p .width) (k / p .width) (mod-lt k pos) (div-lt-iff-lt-mul {k = p .width} {x = k} {y = p .height} pos .1 (omega arith)) b
 
 module _ (p : Picture) (m : ℕ) (d : List ℕ) where
   -- a limit is exceeded: its line
@@ -95,8 +86,7 @@ module _ (p : Picture) (m : ℕ) (d : List ℕ) where
         → Answered (firstOf (ownChecks p m (length d))) p d image image' out out' r
     by-picture e l =
         let own : firstOf (ownChecks p m (length d)) ≡ 0 = sym said ∙ ap decodedNumber e in
-        let k = kept p m none in
         let all : tgaOf (p .width) (p .height) (λ k. getD image' k 0) ≡ written (firstOf (ownChecks p m (length d))) p d =
         tga-same (p .width) (p .height) (λ k. getD image' k 0) (λ k. pictureTexel p d (k % p .width) (k / p .width))
-        (words-are p d (width-above p (k .sides)) (rw e at b)) ∙ sym (written-tga _ p d own) in
+        (word-is p d (rw e at b)) ∙ sym (written-tga _ p d own) in
         record { size = l .size ∙ ap length all; bytes = rw (← all) (l .is); words = rw as-called (b .words) }

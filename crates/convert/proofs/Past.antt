@@ -18,7 +18,8 @@ use Rattle.pvrtc.specs.declared.Picture.{Picture}
 use Rattle.pvrtc.specs.Calls.{refusal}
 use Rattle.pvrtc.specs.Refusals.{need, shortData}
 use Rattle.pvrtc.proofs.Past.{picture-past}
-use Rattle.convert.specs.Output.{plateOf, levelData, limitChecks, payloadChecks, ownChecks, programRefusal, refusedLine, written, output, metadataLimit, needLimit, readLimit, EnoughRead}
+use Rattle.convert.specs.Output.{plateOf, levelData, limitChecks, payloadChecks, ownChecks, programRefusal, refusedLine, written, output}
+use Rattle.convert.specs.Output.{metadataLimit, needLimit, readLimit, EnoughRead}
 use Rattle.convert.proofs.Answers.{tga-same, written-line, written-tga}
 use Rattle.convert.proofs.Limits.{kept, own-same, call-says}
 use Rattle.convert.proofs.Said.{header-first, early, early-first, none-early, none-said}
@@ -149,7 +150,9 @@ enough-read file =
     cut : (t : Bool) → eqb (early front) 0 ≡ t → length front ≡ readLimit → output (front ++ rest) ≡ output front
     cut true e size =
         let k = kept (plateOf front) (metadataSize front) (none-early front (eqb-true (early front) 0 e)) in
-        later-unread front rest (omega (arith, ltb-false metadataLimit (metadataSize front) (k .metadata), ltb-false needLimit (need (plateOf front)) (k .needed)))
+        let metadata : metadataSize front ≤ metadataLimit = ltb-false metadataLimit (metadataSize front) (k .metadata) in
+        let needed : need (plateOf front) ≤ needLimit = ltb-false needLimit (need (plateOf front)) (k .needed) in
+        later-unread front rest (omega arith)
     cut false e size =
         let other : early front ≡ 0 → ⊥ = eqb-false (early front) 0 e in
         refused-same front rest (omega arith) (omega arith)

@@ -47,10 +47,10 @@ module _ (w h k : ℕ) (l : k < w * h) where
       positive zero l = absurd (omega arith)
       positive (suc w) l = omega arith
 
-  pub column-in : k % w < w
+  column-in : k % w < w
   column-in = mod-lt k width-above
 
-  pub row-in : k / w < h
+  row-in : k / w < h
   row-in = div-lt-iff-lt-mul {k = w} {x = k} {y = h} width-above .1 (omega arith)
 
 module _ {two : Bool} {gx gy w h : ℕ} (here : Local two gx gy w h) (z : ℕ) where

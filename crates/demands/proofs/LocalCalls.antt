@@ -3,7 +3,7 @@ use mathlib.Core.Path.{_≡_, refl, sym, ap, _∙_}
 use mathlib.Core.Bool.{Bool, true, false, not, false≢true}
 use mathlib.Core.List.{List, List·Memᴰ, Memᴰ·cast}
 use Prim.Native.Nat.{ℕ, _*_, _/_, _%_, _≤_, _<_}
-use native.Mathlib.Nat.{mod-lt, div-add-mod'}
+use native.Mathlib.Nat.{mod-lt}
 use native.Mathlib.Omega.{arith}
 use lib.Dec.{eqb}
 use lib.ListN.{length, getD}
@@ -20,11 +20,11 @@ use Rattle.pvrtc.specs.declared.Call.{Call}
 use Rattle.pvrtc.specs.declared.Decoded.the-variants.{Done}
 use Rattle.pvrtc.specs.declared.Picture.{Picture}
 use Rattle.pvrtc.proofs.Accepted.{accepted, passed, power-across, power-down}
-use Rattle.pvrtc.proofs.Agree.{block-is}
+use Rattle.pvrtc.proofs.Agree.{word-is}
 use Rattle.demands.specs.Footprint.{isIn, SameOutside}
 use Rattle.demands.specs.Local.{Told, Local}
 use Rattle.demands.specs.LocalCalls.{blocksOf, footprintOf, touchedBy, changed, Shown, LocalCalls, LocalPictures}
-use Rattle.demands.proofs.Counted.{is-in, in-is, column-in, row-in, touched-at-most, touched-at-least}
+use Rattle.demands.proofs.Counted.{is-in, in-is, touched-at-most, touched-at-least}
 use Rattle.demands.proofs.Damage.{rectangle-size}
 use Rattle.demands.proofs.Local.{covers, local}
 use Rattle.demands.proofs.Member.{in-footprint}
@@ -36,13 +36,6 @@ module _ (p : Picture) (sides : zeroSide p ≡ false) (small : largeSide p ≡ f
 
   here : Local two (gridOf p .across) (gridOf p .down) (p .width) (p .height)
   here = local two (gridOf p .across) (gridOf p .down) (p .width) (p .height) (covers two (p .width) (p .height) (power-across p powers) (power-down p powers))
-
-  -- word k of a decoded picture is its texel
-  word-is : (d : List ℕ) {old new : List ℕ} → BlockDecoded p d old new Done → (k : ℕ) → k < p .width * p .height
-      → getD new k 0 ≡ pictureTexel p d (k % p .width) (k / p .width)
-  word-is d {old} {new} b k l =
-      let w : ℕ = p .width in
-      ap (λ (i : ℕ). getD new i 0) (sym (div-add-mod' k w)) ∙ block-is p d (k % w) (k / w) (column-in w (p .height) k l) (row-in w (p .height) k l) b
 
   -- runs that differ in block z alone have the same texel where z is not in the footprint
   unchanged : (d d' : List ℕ) (z x y : ℕ) → SameOutside (blocksOf p) d d' z → (List·Memᴰ z (footprintOf p x y) → ⊥)
@@ -71,7 +64,7 @@ module _ (p : Picture) (sides : zeroSide p ≡ false) (small : largeSide p ≡ f
           by true q = q
           by false q =
               let equal : getD new k 0 ≡ getD new' k 0 =
-              word-is d a k l ∙ unchanged d d' z x y same (λ m. false≢true (sym q ∙ in-is z _ m)) ∙ sym (word-is d' b k l) in
+              word-is p d a k l ∙ unchanged d d' z x y same (λ m. false≢true (sym q ∙ in-is z _ m)) ∙ sym (word-is p d' b k l) in
               absurd (false≢true (sym (ap not (eq-eqb _ _ equal)) ∙ e))
 
   shown : (z : ℕ) → z < blocksOf p → Shown p z
@@ -101,16 +94,17 @@ module _ (p : Picture) (sides : zeroSide p ≡ false) (small : largeSide p ≡ f
       tells : {old new old' new' : List ℕ} → BlockDecoded p (t .one) old new Done → BlockDecoded p (t .other) old' new' Done
           → (k : ℕ) → k < p .width * p .height → (has : Bool) → drawn z k ≡ has → not (eqb (getD new k 0) (getD new' k 0)) ≡ drawn z k
       tells a b k l true q =
-          ap not (ne-eqb _ _ (λ e. t .differ _ _ (is-in z _ q) (sym (word-is (t .one) a k l) ∙ e ∙ word-is (t .other) b k l))) ∙ sym q
+          ap not (ne-eqb _ _ (λ e. t .differ _ _ (is-in z _ q) (sym (word-is p (t .one) a k l) ∙ e ∙ word-is p (t .other) b k l))) ∙ sym q
       tells a b k l false q =
           let texels = unchanged (t .one) (t .other) z (k % p .width) (k / p .width) (t .alone) (λ m. false≢true (sym q ∙ in-is z _ m)) in
-          ap not (eq-eqb _ _ (word-is (t .one) a k l ∙ texels ∙ sym (word-is (t .other) b k l))) ∙ sym q
+          ap not (eq-eqb _ _ (word-is p (t .one) a k l ∙ texels ∙ sym (word-is p (t .other) b k l))) ∙ sym q
 
   local-calls : LocalCalls p
   local-calls =
       record {
         some = here .some;
         few = here .few;
+        within = here .within;
         fills = λ x y u v a b.
             in-footprint two (gridOf p .across) (gridOf p .down) x y _
             (record {

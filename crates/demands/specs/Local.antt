@@ -24,7 +24,7 @@ pub record Whole (two : Bool) (gx gy w h : ℕ) : Type 0 where
   pub across : w ≡ gx * blockWidth two
   pub down : h ≡ gy * 4
 
--- Block z can be told: two runs of so many bytes as the grid has that differ in it alone, and at each texel whose footprint has it.
+-- Block z can be told: two runs of the grid's length that differ in it alone, and whose texels differ wherever it is in the footprint.
 pub record Told (two : Bool) (gx gy z : ℕ) : Type 0 where
   pub one : List ℕ
   pub other : List ℕ

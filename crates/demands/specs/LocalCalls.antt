@@ -66,9 +66,10 @@ pub record Shown (p : Picture) (z : ℕ) : Type 0 where
 
 -- What demand 3 says of a picture.
 pub record LocalCalls (p : Picture) : Type 0 where
-  -- A footprint has one to four blocks.
+  -- A footprint has one to four blocks of the grid.
   pub some : (x y : ℕ) → 1 ≤ length (footprintOf p x y)
   pub few : (x y : ℕ) → length (footprintOf p x y) ≤ 4
+  pub within : (x y z : ℕ) → List·Memᴰ z (footprintOf p x y) → z < blocksOf p
   -- The block of each weight that filling reads is among them: (u, v) is the texel's own place of the three by three blocks
   -- or at most one texel beside it.
   pub fills : (x y u v : ℕ) → let g = gridOf p in let bw = blockWidth (g .is2bpp) in
@@ -77,7 +78,7 @@ pub record LocalCalls (p : Picture) : Type 0 where
   -- Two runs that agree on them give the same word, by whatever calls.
   pub enough : (x y v w : ℕ) (d d' : List ℕ) → ((z : ℕ) → List·Memᴰ z (footprintOf p x y) → SameBlock d d' z)
       → Gives p d x y v → Gives p d' x y w → v ≡ w
-  -- And each of them matters.
+  -- And each of them matters: every block does, wherever it is in a footprint.
   pub needed : (z : ℕ) → z < blocksOf p → Shown p z
   -- So damage in block z touches no texel outside its rectangle, which has 49 places at 4bpp, 105 at 2bpp.
   pub size : (z : ℕ) → length (damagedBy p z) ≡ mostTouched (p .is2bpp)

@@ -21,11 +21,11 @@ unfoldable pub sideBits : ℕ → ℕ
 sideBits g = total (λ i. cond (ltb (2 ^ i) g) 1 0) 16
 
 -- Words are in Morton order: a bit of the row, a bit of the column, the next of the row, and so on from the low end; where one of them
--- has no more bits, those of the other follow. So bit i of the row stands above the i bits of the row and the column before it,
+-- has no more bits, those of the other follow. So bit i of the row stands above i bits of the row and as many of the column, or all it has,
 abbrev pub rowPlace : (columnBits : ℕ) → ℕ → ℕ
 rowPlace columnBits i = i + min i columnBits
 
--- and bit i of the column above one bit more of the row.
+-- and bit i of the column above i bits of the column and one more of the row, or all it has.
 abbrev pub columnPlace : (rowBits : ℕ) → ℕ → ℕ
 columnPlace rowBits i = i + min (i + 1) rowBits
 

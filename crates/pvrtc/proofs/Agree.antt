@@ -1,8 +1,8 @@
 -- The three calls agree: a word of a row, and of a picture, is what the texel call answers there. Assumes nothing.
 use mathlib.Core.Path.{_≡_, sym, ap, _∙_}
 use mathlib.Core.List.{List}
-use Prim.Native.Nat.{ℕ, _+_, _*_, _≤_, _<_}
-use native.Mathlib.Nat.{mul-le-mul-right}
+use Prim.Native.Nat.{ℕ, _+_, _*_, _/_, _%_, _≤_, _<_}
+use native.Mathlib.Nat.{div-add-mod', div-lt-iff-lt-mul, mod-lt, mul-le-mul-right}
 use native.Mathlib.Omega.{arith}
 use lib.ListN.{length, getD}
 use Rattle.paint.specs.Paint.{painted}
@@ -14,7 +14,7 @@ use Rattle.pvrtc.specs.declared.Texel.{Texel}
 use Rattle.pvrtc.specs.Calls.{refusal, TexelRead, RowDecoded, BlockDecoded}
 use Rattle.pvrtc.specs.Picture.{pictureTexel}
 use Rattle.pvrtc.specs.Refusals.{texelValue}
-use Rattle.pvrtc.proofs.Accepted.{accepted, texel-of-row, texel-of-block, row-roomy, block-roomy}
+use Rattle.pvrtc.proofs.Accepted.{accepted, width-above, texel-of-row, texel-of-block, row-roomy, block-roomy}
 
 -- the word at k of a list
 abbrev word : List ℕ → ℕ → ℕ
@@ -56,6 +56,15 @@ module _ (p : Picture) (d : List ℕ) (x y : ℕ) (hx : x < p .width) {old new :
   block-agrees hy w t =
       block-is hy w ∙ sym (value-is p d x y
       (texel-of-block p x y (length old) (length d) (accepted p (call.Block (length old)) (length d) (sym (w .number))) hx hy) t)
+
+-- word k of a decoded picture is its texel in column k % width and row k / width
+pub word-is : (p : Picture) (d : List ℕ) {old new : List ℕ} → BlockDecoded p d old new Done → (k : ℕ) → k < p .width * p .height
+    → getD new k 0 ≡ pictureTexel p d (k % p .width) (k / p .width)
+word-is p d {old} {new} b k l =
+    let w : ℕ = p .width in
+    let wide : 0 < w = width-above p (accepted p (call.Block (length old)) (length d) (sym (b .number)) .sides) in
+    let row : k / w < p .height = div-lt-iff-lt-mul {k = w} {x = k} {y = p .height} wide .1 (omega arith) in
+    ap (λ (i : ℕ). getD new i 0) (sym (div-add-mod' k w)) ∙ block-is p d (k % w) (k / w) (mod-lt k wide) row b
 
 -- and a row is the picture's row
 pub row-of-block : (p : Picture) (d : List ℕ) (x y : ℕ) {row row' image image' : List ℕ} → x < p .width → y < p .height
