@@ -1,4 +1,4 @@
 pub mod Answers
 pub mod NoEffect
-pub mod Starts
+pub mod Shown
 pub mod Unique

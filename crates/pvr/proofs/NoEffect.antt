@@ -8,10 +8,11 @@ use lib.Dec.{ltb}
 use lib.ListN.{length, getD}
 use borrow.Author.Tests.{ltb-false, le-ltb, lt-leb}
 use Rattle.pvr.specs.declared.Header.{Header}
-use Rattle.pvr.specs.Header.{u32At, version, headerSize, pixelFormat, widthField, heightField, payloadOffset, shortHeader, notPvr, notOnePlate, headerRefusal, HeaderRead}
+use Rattle.files.specs.Fields.{u32At}
+use Rattle.files.proofs.Starts.{same-start}
+use Rattle.pvr.specs.Header.{version, headerSize, pixelFormat, widthField, heightField, payloadOffset, shortHeader, notPvr, notOnePlate, headerRefusal, HeaderRead}
 use Rattle.pvr.specs.NoEffect.{hasNoEffect, SameHeader}
 use Rattle.facts.proofs.Order.{holds-here}
-use Rattle.pvr.proofs.Starts.{same-start}
 use Rattle.pvr.proofs.Unique.{one-header}
 
 -- files of one length, and files that both have the header whole

@@ -1,31 +1,17 @@
 -- The PVR version 3 header, as document 01 says it ("The program and its two published layouts"). Assumes nothing: these are definitions.
 -- `file` is the list of the file's bytes; a byte past its end counts as 0.
 use mathlib.Core.Path.{_≡_}
-use mathlib.Core.Bool.{Bool, true, false, not, _&&_, _||_, cond}
+use mathlib.Core.Bool.{Bool, not, _||_, cond}
 use mathlib.Core.List.{List, [], _∷_}
-use Prim.Native.Nat.{ℕ, _+_, _*_}
+use Prim.Native.Nat.{ℕ, _+_}
 use lib.Dec.{eqb, ltb}
-use lib.ListN.{length, getD}
+use lib.ListN.{length}
 use Rattle.facts.specs.Checks.{Check, check, firstOf}
+use Rattle.files.specs.Fields.{u32At, u64At, startsWith}
 use Rattle.pvr.specs.declared.Header.{Header}
 use Rattle.pvr.specs.declared.Header.the-variants.{Plate, Refused}
 use Rattle.pvr.specs.declared.HeaderRefusal.{HeaderRefusal}
 use Rattle.pvr.specs.declared.HeaderRefusal.the-variants.{ShortHeader, NotPvr, UnknownFormat, NotOnePlate}
-
--- The four bytes from place `at` on, little-endian.
-unfoldable pub u32At : List ℕ → ℕ → ℕ
-u32At file at =
-    getD file at 0 + 256 * getD file (at + 1) 0 + 65536 * getD file (at + 2) 0 + 16777216 * getD file (at + 3) 0
-
--- The eight bytes from place `at` on, little-endian.
-abbrev pub u64At : List ℕ → ℕ → ℕ
-u64At file at = u32At file at + 4294967296 * u32At file (at + 4)
-
--- Whether a file's first bytes are these.
-unfoldable pub startsWith : List ℕ → List ℕ → Bool
-startsWith file [] = true
-startsWith [] (b ∷ l) = false
-startsWith (a ∷ file) (b ∷ l) = eqb a b && startsWith file l
 
 -- The header: 52 bytes.
 abbrev pub headerSize : ℕ

@@ -1,2 +1,3 @@
 pub mod Header
 pub mod NoEffect
+pub mod Reading

@@ -1,10 +1,10 @@
--- `pvr::starts_with` meets its contract. The loop keeps that the first i bytes are alike; the measure is what is left of the bytes. Assumes nothing.
+-- `files::starts_with` meets its contract. The loop keeps that the first i bytes are alike; the measure is what is left of the bytes. Assumes nothing.
 use Prim.Native.Nat.{_-_, _≤_}
 use native.Mathlib.Omega.{arith}
 use lib.ListN.{length}
-use Rattle.pvr.proofs.Starts.{Alike, too-short, alike-none, alike-more, alike-not, alike-end}
-use Rattle.pvr.proofs.starts_with.Statement.{statement}
-use Rattle.pvr.proofs.starts_with.Tie as tie
+use Rattle.files.proofs.Starts.{Alike, too-short, alike-none, alike-more, alike-not, alike-end}
+use Rattle.files.proofs.starts_with.Statement.{statement}
+use Rattle.files.proofs.starts_with.Tie as tie
 
 abbrev Inv-loop : tie.InvT-loop
 Inv-loop file bytes i₀ i-end i = (i ≤ length bytes) × Alike file bytes i

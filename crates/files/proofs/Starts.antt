@@ -1,16 +1,16 @@
 -- Comparing a file's first bytes from the front on. Assumes nothing.
 use mathlib.Core.Path.{_≡_, refl, _∙_}
 use mathlib.Core.Bool.{Bool, true, false, _&&_}
-use mathlib.Core.List.{List, [], _∷_}
+use mathlib.Core.List.{List, [], _∷_, _++_}
 use Prim.Native.Nat.{ℕ, suc, _+_, _<_, _≤_}
 use native.Mathlib.Nat.{le-of-suc-le-suc, not-suc-le-zero}
 use native.Mathlib.Numerals.{add-one}
 use native.Mathlib.Omega.{arith}
 use lib.Dec.{eqb}
-use lib.ListN.{length, getD, drop, drop-of-length-le}
+use lib.ListN.{length, getD, drop, length-append, List·getD-append, drop-of-length-le}
 use lib.Seq.{drop-cons}
 use borrow.Author.Tests.{eq-eqb, ne-eqb}
-use Rattle.pvr.specs.Header.{startsWith}
+use Rattle.files.specs.Fields.{startsWith}
 
 -- a file that is too short does not start with the bytes
 pub too-short : (f p : List ℕ) → length f < length p → false ≡ startsWith f p
@@ -54,3 +54,8 @@ same-start [] g (b ∷ p) hf hg e = absurd (not-suc-le-zero hf)
 same-start (a ∷ f) [] (b ∷ p) hf hg e = absurd (not-suc-le-zero hg)
 same-start (a ∷ f) (a' ∷ g) (b ∷ p) hf hg e =
     rw (e 0 (omega arith), same-start f g p (le-of-suc-le-suc hf) (le-of-suc-le-suc hg) (λ i h. e (suc i) (omega arith)))
+
+-- so later bytes do not change what a file starts with
+pub start-before : (file more p : List ℕ) → length p ≤ length file → startsWith (file ++ more) p ≡ startsWith file p
+start-before file more p h =
+    same-start (file ++ more) file p (omega (arith, length-append file more)) h (λ i l. List·getD-append file more 0 i (omega arith))

@@ -1,0 +1,30 @@
+-- A number in a file depends on its own bytes, and so on none behind them. Assumes nothing.
+use mathlib.Core.Path.{_≡_, ap, _∙_}
+use mathlib.Core.List.{List, _++_}
+use Prim.Native.Nat.{ℕ, _+_, _*_, _<_, _≤_}
+use native.Mathlib.Nat.{add-assoc}
+use native.Mathlib.Omega.{arith}
+use lib.ListN.{length, getD, List·getD-append}
+use Rattle.files.specs.Fields.{u32At}
+
+-- two files with the same four bytes from a place on have the same number there
+pub same-field : (f g : List ℕ) (at : ℕ) → ((k : ℕ) → k < 4 → getD f (at + k) 0 ≡ getD g (at + k) 0) → u32At f at ≡ u32At g at
+unfolding u32At
+same-field f g at e =
+    let none : at + 0 ≡ at = omega arith in
+    rw (rw none at (e 0 (omega arith)), e 1 (omega arith), e 2 (omega arith), e 3 (omega arith))
+
+-- a number read at a place, or no places after it
+pub here : (file : List ℕ) (at : ℕ) {n : ℕ} → n ≡ u32At file (at + 0) → n ≡ u32At file at
+here file at e = e ∙ ap (u32At file) (omega arith)
+
+-- where a place is named in two parts, the number is that of the four bytes there
+pub from-parts : (file : List ℕ) (at k : ℕ)
+    → getD file (at + k) 0 + 256 * getD file (at + (k + 1)) 0 + 65536 * getD file (at + (k + 2)) 0 + 16777216 * getD file (at + (k + 3)) 0
+    ≡ u32At file (at + k)
+unfolding u32At
+from-parts file at k = rw (add-assoc at k 1, add-assoc at k 2, add-assoc at k 3)
+
+-- later bytes leave a number as it is
+pub field-before : (file more : List ℕ) (at : ℕ) → at + 4 ≤ length file → u32At (file ++ more) at ≡ u32At file at
+field-before file more at h = same-field (file ++ more) file at (λ k l. List·getD-append file more 0 (at + k) (omega arith))
