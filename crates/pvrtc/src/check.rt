@@ -83,7 +83,8 @@ fn refuse_if(holds: bool, f: Refusal) -> Decoded
     Decoded::Done
 }
 
-fn check_sizes(p: Picture) -> Decoded
+// The refusals of a picture's sizes, which come first in every call.
+pub fn check_sizes(p: Picture) -> Decoded
     ensures { λ r. ⌜ Says r (sizeChecks p) ⌝ }
 {
     let zero = refuse_if(has_zero_side(p), Refusal::ZeroSide);

@@ -10,6 +10,7 @@ pub use block_call::decode_picture;
 pub use block_call::decode_pvrtc;
 pub use block_call::decode_pvrtc_2bpp;
 pub use block_call::decode_pvrtc_4bpp;
+pub use check::check_sizes;
 pub use check::has_zero_side;
 pub use check::refusal_number;
 pub use layout::grid_of;

@@ -54,9 +54,11 @@ four ea eb ec ed e = cc
 
 returns : tie.Need-returns
 returns c =
-    let a = c .before .before .before .before .before .args in
-    (four (c .before .before .before .byte-from .ensures .0) (c .before .before .byte-from2 .ensures .0) (c .before .byte-from3 .ensures .0)
-    (c .byte-from4 .ensures .0) (from-parts (now (a .file)) (a .at) (a .k)), omega arith)
+    let a = c .before .before .before .before .before .args in (
+      four (c .before .before .before .byte-from .ensures .0) (c .before .before .byte-from2 .ensures .0) (c .before .byte-from3 .ensures .0)
+          (c .byte-from4 .ensures .0) (from-parts (now (a .file)) (a .at) (a .k)),
+      omega arith,
+    )
 
 pub u32-from-spec : {M : Type 1} → statement M
 u32-from-spec =

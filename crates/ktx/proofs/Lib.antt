@@ -1,0 +1,4 @@
+pub mod Answers
+pub mod Sized
+pub mod Unique
+pub mod Whole

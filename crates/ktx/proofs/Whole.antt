@@ -1,0 +1,71 @@
+-- From a header's answer to the picture of the whole file. Assumes nothing.
+use mathlib.Core.Path.{_≡_, refl, sym, ap, _∙_}
+use mathlib.Core.Bool.{Bool, false, cond}
+use mathlib.Core.List.{List}
+use Prim.Native.Nat.{ℕ, _-_, _<_, _≤_}
+use native.Mathlib.Omega.{arith}
+use lib.Dec.{eqb}
+use lib.ListN.{length, take, drop, length-drop}
+use lib.Seq.{take-all}
+use borrow.Author.Tests.{ltb-false, ne-eqb}
+use Rattle.facts.specs.Checks.{firstOf}
+use Rattle.facts.proofs.Checks.{none-said, first-append, said-first}
+use Rattle.pvrtc.specs.declared.Picture.{Picture}
+use Rattle.pvrtc.specs.Picture.{picture}
+use Rattle.ktx.specs.declared.Decoded.{Decoded}
+use Rattle.ktx.specs.declared.Decoded.the-variants.{Unread}
+use Rattle.ktx.specs.declared.Header.{Header}
+use Rattle.ktx.specs.declared.Header.the-variants.{Plate, Refused}
+use Rattle.ktx.specs.declared.HeaderRefusal.{HeaderRefusal}
+use Rattle.ktx.specs.Header.{sizeWord, payloadOffset, headerChecks, headerRefusal, numberOf, headerNumber, HeaderRead}
+use Rattle.ktx.specs.Inner.{SizedDecoded}
+use Rattle.ktx.specs.Picture.{plateOf, levelData, sizedChecks, pictureRefusal, decodedNumber, KtxDecoded}
+use Rattle.ktx.proofs.Answers.{PlateRead, of-plate, number-above}
+
+-- where the header is accepted, the data lies within the file
+pub payload-within : (file : List ℕ) → headerRefusal file ≡ 0 → payloadOffset file ≤ length file
+payload-within file e = ltb-false _ _ (none-said (headerChecks file) tt e 37)
+
+-- and it is the picture that speaks
+pub picture-speaks : (file : List ℕ) (room : ℕ) → headerRefusal file ≡ 0
+    → pictureRefusal file room ≡ firstOf (sizedChecks (plateOf file) (sizeWord file) (length (levelData file)) room)
+picture-speaks file room e = first-append (headerChecks file) _ tt ∙ rw e refl
+
+-- the parts of an answer may be replaced by equal ones
+sized-same : {p q : Picture} {s t : ℕ} {d e old new : List ℕ} {r : Decoded} → p ≡ q → s ≡ t → d ≡ e → SizedDecoded p s d old new r
+    → SizedDecoded q t e old new r
+sized-same ep es ed a = rw (← ep, ← es, ← ed) a
+
+module _ (file old : List ℕ) {header : Header} (read : HeaderRead file header) where
+  -- the header is refused: its number, and the words as they were
+  pub by-header : {f : HeaderRefusal} → header ≡ Refused f → KtxDecoded file old old (Unread f)
+  by-header {f} e =
+      let first : numberOf f ≡ headerRefusal file = sym (ap headerNumber e) ∙ read .number in
+      let number : numberOf f ≡ pictureRefusal file (length old) = said-first (headerChecks file) _ tt first (number-above f) in
+      let other : eqb (pictureRefusal file (length old)) 0 ≡ false = ne-eqb (pictureRefusal file (length old)) 0 (λ z. omega (arith, number-above f)) in
+      record { number = number; words = rw other }
+
+  module _ {w h : ℕ} {two : Bool} {at size : ℕ} (e : header ≡ Plate w h two at size) where
+    plate : PlateRead file w h two at size
+    plate = of-plate (rw e at read)
+
+    pub within : at ≤ length file
+    within = omega (arith, payload-within file (plate .accepted), plate .payload)
+
+    -- it is accepted: what is said of its picture
+    pub by-picture : {new : List ℕ} {r : Decoded} → SizedDecoded (picture w h two) size (take (length file - at) (drop at file)) old new r
+        → KtxDecoded file old new r
+    by-picture {new} {r} a = record { number = b .number ∙ sym speaks; words = rw speaks (b .words) }
+      where
+        same-plate : picture w h two ≡ plateOf file
+        same-plate = rw (plate .width, plate .height, plate .depth)
+
+        same-data : take (length file - at) (drop at file) ≡ levelData file
+        same-data =
+            take-all (length file - at) (drop at file) (omega (arith, length-drop at file)) ∙ ap (λ (n : ℕ). drop n file) (plate .payload)
+
+        b : SizedDecoded (plateOf file) (sizeWord file) (levelData file) old new r
+        b = sized-same same-plate (plate .said) same-data a
+
+        speaks : pictureRefusal file (length old) ≡ firstOf (sizedChecks (plateOf file) (sizeWord file) (length (levelData file)) (length old))
+        speaks = picture-speaks file (length old) (plate .accepted)

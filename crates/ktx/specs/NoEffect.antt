@@ -1,0 +1,1 @@
+-- What of a file has no effect on how it is read. Assumes nothing: these are definitions.
