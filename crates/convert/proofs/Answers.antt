@@ -20,7 +20,8 @@ use Rattle.pvrtc.specs.Refusals.{numberOf, decodedNumber}
 use Rattle.pvrtc.proofs.Agree.{word-is}
 use Rattle.pvrtc.proofs.Unique.{number-above}
 use Rattle.convert.specs.Inner.{Laid}
-use Rattle.convert.specs.Output.{limitChecks, ownChecks, refusedLine, byteOf, tgaHeader, tgaOf, tga, written, Answered}
+use Rattle.files.specs.declared.Stored.{Stored}
+use Rattle.convert.specs.Output.{pictureOf, limitChecks, ownChecks, refusedLine, byteOf, tgaHeader, tgaOf, tga, written, Answered}
 use Rattle.convert.proofs.Limits.{kept, own-number, few-words, call-says}
 
 -- no two outcomes meet the promise
@@ -52,41 +53,44 @@ tga-same w h f g e =
     (tab-same (λ i. byteOf (f (i / 4)) (i % 4)) (λ i. byteOf (g (i / 4)) (i % 4)) (4 * (w * h))
     (λ i l. ap (λ (v : ℕ). byteOf v (i % 4)) (e (i / 4) (omega arith))))
 
-module _ (p : Picture) (m : ℕ) (d : List ℕ) where
+module _ (s : Stored) (d : List ℕ) where
+  abbrev p : Picture
+  p = pictureOf s
+
   -- a limit is exceeded: its line
-  pub by-limit : {image out out' : List ℕ} {n r : ℕ} → n ≡ firstOf (limitChecks p m) → 0 < n → Laid (refusedLine n) out out' r
-      → Answered (firstOf (ownChecks p m (length d))) p d image image out out' r
+  pub by-limit : {image out out' : List ℕ} {n r : ℕ} → n ≡ firstOf (limitChecks s) → 0 < n → Laid (refusedLine n) out out' r
+      → Answered (firstOf (ownChecks s (length d))) p d image image out out' r
   by-limit {n = n} e above l =
-      let other : eqb (firstOf (limitChecks p m)) 0 ≡ false = ne-eqb (firstOf (limitChecks p m)) 0 (omega arith) in
-      let own : firstOf (ownChecks p m (length d)) ≡ n = own-number p m (length d) ∙ rw other (sym e) in
+      let other : eqb (firstOf (limitChecks s)) 0 ≡ false = ne-eqb (firstOf (limitChecks s)) 0 (omega arith) in
+      let own : firstOf (ownChecks s (length d)) ≡ n = own-number s (length d) ∙ rw other (sym e) in
       rw own (by-line above l)
 
-  module _ {image image' : List ℕ} {decoded : Decoded} (none : firstOf (limitChecks p m) ≡ 0) (room : 131072 ≤ length image)
+  module _ {image image' : List ℕ} {decoded : Decoded} (none : firstOf (limitChecks s) ≡ 0) (room : 131072 ≤ length image)
       (b : BlockDecoded p d image image' decoded) where
     -- past the limits it is the block call that speaks
-    as-called : firstOf (ownChecks p m (length d)) ≡ refusal p (call.Block (length image)) d
+    as-called : firstOf (ownChecks s (length d)) ≡ refusal p (call.Block (length image)) d
     as-called =
-        let k = kept p m none in
-        own-number p m (length d) ∙ rw none (sym (call-says p (length image) (length d) (k .sides) (k .small) (omega (arith, few-words p (k .needed)))))
+        let k = kept s none in
+        own-number s (length d) ∙ rw none (sym (call-says p (length image) (length d) (k .sides) (k .small) (omega (arith, few-words p (k .needed)))))
 
-    said : decodedNumber decoded ≡ firstOf (ownChecks p m (length d))
+    said : decodedNumber decoded ≡ firstOf (ownChecks s (length d))
     said = b .number ∙ sym as-called
 
     -- it refuses: its line
     pub by-call : {out out' : List ℕ} {f : Refusal} {n r : ℕ} → decoded ≡ Refused f → n ≡ numberOf f → Laid (refusedLine n) out out' r
-        → Answered (firstOf (ownChecks p m (length d))) p d image image' out out' r
+        → Answered (firstOf (ownChecks s (length d))) p d image image' out out' r
     by-call {f = f} {n = n} e q l =
-        let own : n ≡ firstOf (ownChecks p m (length d)) = q ∙ sym (ap decodedNumber e) ∙ said in
-        let above : 0 < firstOf (ownChecks p m (length d)) = omega (arith, number-above f) in
-        let line : refusedLine n ≡ written (firstOf (ownChecks p m (length d))) p d = ap refusedLine own ∙ sym (written-line _ p d above) in
+        let own : n ≡ firstOf (ownChecks s (length d)) = q ∙ sym (ap decodedNumber e) ∙ said in
+        let above : 0 < firstOf (ownChecks s (length d)) = omega (arith, number-above f) in
+        let line : refusedLine n ≡ written (firstOf (ownChecks s (length d))) p d = ap refusedLine own ∙ sym (written-line _ p d above) in
         record { size = l .size ∙ ap length line; bytes = rw (← line) (l .is); words = rw as-called (b .words) }
 
     -- it decodes: the TGA
     pub by-picture : {out out' : List ℕ} {r : ℕ} → decoded ≡ Done → Laid (tgaOf (p .width) (p .height) (λ k. getD image' k 0)) out out' r
-        → Answered (firstOf (ownChecks p m (length d))) p d image image' out out' r
+        → Answered (firstOf (ownChecks s (length d))) p d image image' out out' r
     by-picture e l =
-        let own : firstOf (ownChecks p m (length d)) ≡ 0 = sym said ∙ ap decodedNumber e in
-        let all : tgaOf (p .width) (p .height) (λ k. getD image' k 0) ≡ written (firstOf (ownChecks p m (length d))) p d =
+        let own : firstOf (ownChecks s (length d)) ≡ 0 = sym said ∙ ap decodedNumber e in
+        let all : tgaOf (p .width) (p .height) (λ k. getD image' k 0) ≡ written (firstOf (ownChecks s (length d))) p d =
         tga-same (p .width) (p .height) (λ k. getD image' k 0) (λ k. pictureTexel p d (k % p .width) (k / p .width))
         (word-is p d (rw e at b)) ∙ sym (written-tga _ p d own) in
         record { size = l .size ∙ ap length all; bytes = rw (← all) (l .is); words = rw as-called (b .words) }

@@ -16,35 +16,37 @@ use Rattle.pvrtc.specs.declared.Picture.{Picture}
 use Rattle.pvrtc.specs.Picture.{across, down}
 use Rattle.pvrtc.specs.Refusals.{need, zeroSide, largeSide, shortImage, outside, checks}
 use Rattle.convert.specs.Inner.{TgaFits}
-use Rattle.convert.specs.Output.{needLimit, longMetadata, longSide, largeNeed, limitChecks, payloadChecks, ownChecks, Room}
+use Rattle.files.specs.declared.Stored.{Stored}
+use Rattle.convert.specs.Output.{pictureOf, needLimit, longSkipped, longSide, largeNeed, otherSize, limitChecks, payloadChecks, ownChecks, Room}
 
 -- a number that is not above 0 is 0
 pub says-none : {n m : ℕ} → n ≡ m → n ≤ 0 → m ≡ 0
 says-none e h = omega arith
 
--- no limit is exceeded
-pub record Kept (p : Picture) (m : ℕ) : Type 0 where
-  pub metadata : longMetadata m ≡ false
-  pub sides : zeroSide p ≡ false
-  pub small : longSide p ≡ false
-  pub needed : largeNeed p ≡ false
+-- nothing is refused before the data
+pub record Kept (s : Stored) : Type 0 where
+  pub skipped : longSkipped s ≡ false
+  pub whole : s .cut ≡ false
+  pub sides : zeroSide (pictureOf s) ≡ false
+  pub small : longSide (pictureOf s) ≡ false
+  pub needed : largeNeed (pictureOf s) ≡ false
+  pub sized : otherSize s ≡ false
 
-module _ (p : Picture) (m : ℕ) where
+module _ (s : Stored) where
   -- each by its number
-  pub kept : firstOf (limitChecks p m) ≡ 0 → Kept p m
+  pub kept : firstOf (limitChecks s) ≡ 0 → Kept s
   kept e =
-      let none : (n : ℕ) → condition (limitChecks p m) n ≡ false = none-said (limitChecks p m) tt e in
-      record { metadata = none 21; sides = none 1; small = none 22; needed = none 23 }
+      let none : (n : ℕ) → condition (limitChecks s) n ≡ false = none-said (limitChecks s) tt e in
+      record { skipped = none 21; whole = none 37; sides = none 1; small = none 22; needed = none 23; sized = none 36 }
 
   -- the limits speak first, and what the data and the grid say comes after them
   pub own-number : (len : ℕ)
-      → firstOf (ownChecks p m len) ≡ cond (eqb (firstOf (limitChecks p m)) 0) (firstOf (payloadChecks p len)) (firstOf (limitChecks p m))
-  own-number len = first-append (limitChecks p m) (payloadChecks p len) tt
+      → firstOf (ownChecks s len) ≡ cond (eqb (firstOf (limitChecks s)) 0) (firstOf (payloadChecks (pictureOf s) len)) (firstOf (limitChecks s))
+  own-number len = first-append (limitChecks s) (payloadChecks (pictureOf s) len) tt
 
 -- equal plates with equal lengths are refused alike
-pub own-same : {p q : Picture} {m m' len len' : ℕ} → p ≡ q → m ≡ m' → len ≡ len' → firstOf (ownChecks p m len) ≡ firstOf (ownChecks q m' len')
-own-same {q = q} {m} {m'} {len} ep em el =
-    ap (λ (x : Picture). firstOf (ownChecks x m len)) ep ∙ ap (λ (k : ℕ). firstOf (ownChecks q k len)) em ∙ ap (λ (k : ℕ). firstOf (ownChecks q m' k)) el
+pub own-same : {s t : Stored} {len len' : ℕ} → s ≡ t → len ≡ len' → firstOf (ownChecks s len) ≡ firstOf (ownChecks t len')
+own-same {t = t} {len} es el = ap (λ (x : Stored). firstOf (ownChecks x len)) es ∙ ap (λ (k : ℕ). firstOf (ownChecks t k)) el
 
 module _ (p : Picture) (e : longSide p ≡ false) where
   pub width-small : p .width ≤ 1024
@@ -76,14 +78,14 @@ unfolding firstOf shortImage outside
 call-says p room len z l fits = simp (z, not-large p l, le-ltb room (p .width * p .height) fits)
 
 -- the picture fits into enough words, and its TGA into enough bytes
-pub tga-fits : (p : Picture) (m : ℕ) {image out words : ℕ} → firstOf (limitChecks p m) ≡ 0 → Room image out → words ≡ image
-    → TgaFits (p .width) (p .height) words out
-tga-fits p m e r same =
-    let k = kept p m e in
-    let few = few-words p (k .needed) in
+pub tga-fits : (s : Stored) {image out words : ℕ} → firstOf (limitChecks s) ≡ 0 → Room image out → words ≡ image
+    → TgaFits (s .width) (s .height) words out
+tga-fits s e r same =
+    let k = kept s e in
+    let few = few-words (pictureOf s) (k .needed) in
     record {
-      small-w = width-small p (k .small);
-      small-h = height-small p (k .small);
+      small-w = width-small (pictureOf s) (k .small);
+      small-h = height-small (pictureOf s) (k .small);
       few = few;
       words = omega (arith, r .words);
       bytes = omega (arith, r .bytes);

@@ -10,9 +10,9 @@ use lib.ListN.{length, take}
 use borrow.Author.Tests.{eqb-true, eqb-false}
 use Rattle.facts.specs.Checks.{firstOf, Given}
 use Rattle.facts.proofs.Checks.{first-append, exactly-when}
-use Rattle.pvr.specs.Header.{widthField, heightField, metadataSize, headerChecks, headerRefusal}
-use Rattle.convert.specs.Output.{plateOf, levelData, limitChecks, payloadChecks, ownChecks, programChecks, programRefusal, refusedText, refusedLine, tga, output, Converted}
+use Rattle.convert.specs.Output.{saysOf, headerRefusal, storedIn, plateOf, levelData, limitChecks, payloadChecks, ownChecks, programChecks, programRefusal, refusedText, refusedLine, tga, output, Converted}
 use Rattle.convert.proofs.Answers.{written-line, written-tga}
+use Rattle.convert.proofs.Either.{all-numbered}
 use Rattle.convert.proofs.Front.{length-laid, in-front}
 use Rattle.convert.proofs.Layouts.{picture-length}
 use Rattle.convert.proofs.Limits.{own-number, kept, few-words}
@@ -24,13 +24,13 @@ refused-when file n h = exactly-when (programChecks file) n h
 -- the header speaks first
 pub header-first : (file : List ℕ)
     → programRefusal file
-    ≡ cond (eqb (headerRefusal file) 0) (firstOf (ownChecks (plateOf file) (metadataSize file) (length (levelData file)))) (headerRefusal file)
+    ≡ cond (eqb (headerRefusal file) 0) (firstOf (ownChecks (storedIn file) (length (levelData file)))) (headerRefusal file)
 header-first file =
-    first-append (headerChecks file) (ownChecks (plateOf file) (metadataSize file) (length (levelData file))) tt
+    first-append (saysOf file .refusals) (ownChecks (storedIn file) (length (levelData file))) (all-numbered file)
 
 -- and the limits next: what is said before the data is asked
 abbrev pub early : List ℕ → ℕ
-early file = cond (eqb (headerRefusal file) 0) (firstOf (limitChecks (plateOf file) (metadataSize file))) (headerRefusal file)
+early file = cond (eqb (headerRefusal file) 0) (firstOf (limitChecks (storedIn file))) (headerRefusal file)
 
 nested : (a b c : ℕ) → cond (eqb a 0) (cond (eqb b 0) c b) a ≡ cond (eqb (cond (eqb a 0) b a) 0) c (cond (eqb a 0) b a)
 nested a b c = by (eqb a 0) refl
@@ -43,8 +43,8 @@ pub early-first : (file : List ℕ)
     → programRefusal file ≡ cond (eqb (early file) 0) (firstOf (payloadChecks (plateOf file) (length (levelData file)))) (early file)
 early-first file =
     header-first file
-    ∙ ap (λ (n : ℕ). cond (eqb (headerRefusal file) 0) n (headerRefusal file)) (own-number (plateOf file) (metadataSize file) (length (levelData file)))
-    ∙ nested (headerRefusal file) (firstOf (limitChecks (plateOf file) (metadataSize file))) (firstOf (payloadChecks (plateOf file) (length (levelData file))))
+    ∙ ap (λ (n : ℕ). cond (eqb (headerRefusal file) 0) n (headerRefusal file)) (own-number (storedIn file) (length (levelData file)))
+    ∙ nested (headerRefusal file) (firstOf (limitChecks (storedIn file))) (firstOf (payloadChecks (plateOf file) (length (levelData file))))
 
 -- of two numbers, the first or else the second, neither is said where the choice is 0
 both-none : (a b : ℕ) → cond (eqb a 0) b a ≡ 0 → (a ≡ 0) × (b ≡ 0)
@@ -54,8 +54,8 @@ both-none a b e = by (eqb a 0) refl e
     by true q z = (eqb-true a 0 q, z)
     by false q z = absurd (eqb-false a 0 q z)
 
-pub none-early : (file : List ℕ) → early file ≡ 0 → firstOf (limitChecks (plateOf file) (metadataSize file)) ≡ 0
-none-early file e = both-none (headerRefusal file) (firstOf (limitChecks (plateOf file) (metadataSize file))) e .1
+pub none-early : (file : List ℕ) → early file ≡ 0 → firstOf (limitChecks (storedIn file)) ≡ 0
+none-early file e = both-none (headerRefusal file) (firstOf (limitChecks (storedIn file))) e .1
 
 pub none-said : (file : List ℕ) → programRefusal file ≡ 0 → (early file ≡ 0) × (firstOf (payloadChecks (plateOf file) (length (levelData file))) ≡ 0)
 none-said file e = both-none (early file) (firstOf (payloadChecks (plateOf file) (length (levelData file)))) (sym (early-first file) ∙ e)
@@ -76,8 +76,8 @@ output-fits file = by (eqb (programRefusal file) 0) refl
     by : (t : Bool) → eqb (programRefusal file) 0 ≡ t → length (output file) ≤ 524306
     by true e =
         let none = none-said file (eqb-true (programRefusal file) 0 e) in
-        let few = few-words (plateOf file) (kept (plateOf file) (metadataSize file) (none-early file (none .0)) .needed) in
-        let size : length (tga (plateOf file) (levelData file)) ≡ 18 + 4 * (widthField file * heightField file) = picture-length (plateOf file)
+        let few = few-words (plateOf file) (kept (storedIn file) (none-early file (none .0)) .needed) in
+        let size : length (tga (plateOf file) (levelData file)) ≡ 18 + 4 * (storedIn file .width * storedIn file .height) = picture-length (plateOf file)
         (levelData file) in
         rw (written-tga (programRefusal file) (plateOf file) (levelData file) (eqb-true (programRefusal file) 0 e)) (omega (arith, size, few))
     by false e =

@@ -1,6 +1,6 @@
--- From a header's answer to the promise for the whole file. Assumes nothing.
+-- From a reader's answer to the promise for the whole file. Assumes nothing.
 use mathlib.Core.Path.{_≡_, sym, ap, _∙_}
-use mathlib.Core.Bool.{Bool, false}
+use mathlib.Core.Bool.{false}
 use mathlib.Core.List.{List}
 use mathlib.Core.Logic.{⊎-elim}
 use Prim.Native.Nat.{ℕ, _-_, _<_, _≤_, min}
@@ -9,28 +9,20 @@ use lib.Dec.{eqb}
 use lib.ListN.{length, take, drop, length-drop, drop-of-length-le}
 use lib.Seq.{take-all}
 use borrow.Author.Tests.{ne-eqb}
-use Rattle.facts.specs.Checks.{firstOf, at}
+use Rattle.facts.specs.Checks.{firstOf}
 use Rattle.facts.proofs.Numbers.{lt-or-le}
-use Rattle.pvr.specs.declared.Header.{Header}
-use Rattle.pvr.specs.declared.Header.the-variants.{Plate, Refused}
-use Rattle.pvr.specs.declared.HeaderRefusal.{HeaderRefusal}
-use Rattle.pvr.specs.declared.HeaderRefusal.the-variants.{ShortHeader, NotPvr, UnknownFormat, NotOnePlate}
-use Rattle.pvr.specs.Header.{metadataSize, headerRefusal, numberOf, headerNumber, HeaderRead}
-use Rattle.pvr.proofs.Answers.{PlateRead, of-plate, number-above}
+use Rattle.files.specs.Reading.{readingOf}
+use Rattle.files.specs.declared.Reading.{Reading}
+use Rattle.files.specs.declared.Reading.the-variants.{Plate, Refused}
+use Rattle.files.specs.declared.Stored.{Stored}
+use Rattle.files.proofs.Answers.{of-number, of-plate}
 use Rattle.pvrtc.specs.declared.Picture.{Picture}
-use Rattle.pvrtc.specs.Picture.{picture}
 use Rattle.convert.specs.Inner.{Laid}
-use Rattle.convert.specs.Output.{plateOf, levelData, ownChecks, programRefusal, refusedLine, Answered, Converted}
+use Rattle.convert.specs.Output.{saysOf, headerRefusal, storedIn, pictureOf, levelData, ownChecks, programRefusal, refusedLine, Answered, Converted}
 use Rattle.convert.proofs.Answers.{by-line}
+use Rattle.convert.proofs.Either.{header-small}
 use Rattle.convert.proofs.Limits.{own-same}
 use Rattle.convert.proofs.Said.{header-first}
-
--- a header's number is short enough for the line
-pub number-small : (f : HeaderRefusal) → numberOf f ≤ 14
-number-small ShortHeader = omega arith
-number-small NotPvr = omega arith
-number-small UnknownFormat = omega arith
-number-small NotOnePlate = omega arith
 
 -- the data from the payload on, or from the file's end where that comes first
 pub data-is : (file : List ℕ) (start payload : ℕ) → start ≡ min payload (length file) → take (length file - start) (drop start file) ≡ drop payload file
@@ -46,39 +38,37 @@ answered-same : {n m : ℕ} {p q : Picture} {d e image image' out out' : List �
     → Answered m q e image image' out out' r
 answered-same en ep ed a = rw (← en, ← ep, ← ed) a
 
-module _ {file : List ℕ} {header : Header} (read : HeaderRead file header) where
+module _ (file : List ℕ) {reading : Reading} (read : reading ≡ readingOf (saysOf file)) where
   -- the header is refused: its line
-  pub by-header : {image out out' : List ℕ} {n r : ℕ} (f : HeaderRefusal) → header ≡ Refused f → n ≡ numberOf f → Laid (refusedLine n) out out' r
-      → Converted file image image out out' r
-  by-header {n = n} f e q l =
-      let says : headerRefusal file ≡ n = sym (read .number) ∙ ap headerNumber e ∙ sym q in
-      let above : 0 < n = omega (arith, number-above f) in
-      let other : eqb n 0 ≡ false = ne-eqb n 0 (omega arith) in
-      let whole : n ≡ programRefusal file = sym (header-first file ∙ rw (says, other)) in
-      rw (← whole) (by-line above l)
+  module _ {n : ℕ} (e : reading ≡ Refused n) where
+    said : (headerRefusal file ≡ n) × (0 < n)
+    said = of-number (saysOf file) (sym e ∙ read)
 
-  module _ {w h : ℕ} {two : Bool} {payload : ℕ} (e : header ≡ Plate w h two payload) where
-    plate : PlateRead file w h two payload
-    plate = of-plate (rw e at read)
+    pub number-small : n < 100
+    number-small = omega (arith, header-small file, said .0)
 
-    pub after-header : 52 ≤ payload
-    after-header = omega (arith, plate .payload)
+    pub by-header : {image out out' : List ℕ} {r : ℕ} → Laid (refusedLine n) out out' r → Converted file image image out out' r
+    by-header l =
+        let other : eqb n 0 ≡ false = ne-eqb n 0 (omega (arith, said .1)) in
+        let whole : n ≡ programRefusal file = sym (header-first file ∙ rw (said .0, other)) in
+        rw (← whole) (by-line (said .1) l)
 
-    -- the header is accepted: what is said of its plate
-    pub by-plate : {image image' out out' : List ℕ} {start r : ℕ} → start ≡ min payload (length file)
-        → Answered (firstOf (ownChecks (picture w h two) (payload - 52) (length (take (length file - start) (drop start file))))) (picture w h two)
+  -- the header is accepted: what is said of its plate
+  module _ {s : Stored} (e : reading ≡ Plate s) where
+    pub by-plate : {image image' out out' : List ℕ} {start r : ℕ} → start ≡ min (s .payload) (length file)
+        → Answered (firstOf (ownChecks s (length (take (length file - start) (drop start file))))) (pictureOf s)
         (take (length file - start) (drop start file)) image image' out out' r
         → Converted file image image' out out' r
-    by-plate {start = start} s a = answered-same number same-plate same-data a
+    by-plate {start = start} q a = answered-same number (ap pictureOf same-plate) same-data a
       where
-        same-plate : picture w h two ≡ plateOf file
-        same-plate = rw (plate .width, plate .height, plate .depth)
+        accepted : headerRefusal file ≡ 0
+        accepted = of-plate (saysOf file) (sym e ∙ read) .0
+
+        same-plate : s ≡ storedIn file
+        same-plate = of-plate (saysOf file) (sym e ∙ read) .1
 
         same-data : take (length file - start) (drop start file) ≡ levelData file
-        same-data = data-is file start payload s ∙ ap (λ (n : ℕ). drop n file) (plate .payload)
+        same-data = data-is file start (s .payload) q ∙ ap (λ (t : Stored). drop (t .payload) file) same-plate
 
-        metadata : payload - 52 ≡ metadataSize file
-        metadata = omega (arith, plate .payload)
-
-        number : firstOf (ownChecks (picture w h two) (payload - 52) (length (take (length file - start) (drop start file)))) ≡ programRefusal file
-        number = own-same same-plate metadata (ap length same-data) ∙ sym (header-first file ∙ rw (plate .accepted))
+        number : firstOf (ownChecks s (length (take (length file - start) (drop start file)))) ≡ programRefusal file
+        number = own-same same-plate (ap length same-data) ∙ sym (header-first file ∙ rw accepted)

@@ -4,12 +4,12 @@ use mathlib.Core.List.{List}
 use Prim.Native.Nat.{ℕ, _+_, _*_, _≤_}
 use lib.ListN.{length}
 use Rattle.facts.specs.Checks.{firstOf}
-use Rattle.pvrtc.specs.declared.Picture.{Picture}
-use Rattle.convert.specs.Output.{ownChecks, laid, Answered}
+use Rattle.files.specs.declared.Stored.{Stored}
+use Rattle.convert.specs.Output.{pictureOf, ownChecks, laid, Answered}
 
 -- What is promised of a plate whose header is accepted.
-abbrev pub PlateConverted : Picture → (metadata : ℕ) → (d image image' out out' : List ℕ) → ℕ → Type 0
-PlateConverted p metadata d image image' out out' r = Answered (firstOf (ownChecks p metadata (length d))) p d image image' out out' r
+abbrev pub PlateConverted : Stored → (d image image' out out' : List ℕ) → ℕ → Type 0
+PlateConverted s d image image' out out' r = Answered (firstOf (ownChecks s (length d))) (pictureOf s) d image image' out out' r
 
 -- Bytes were laid in front of lent bytes, and r is how many.
 pub record Laid (bytes old new : List ℕ) (r : ℕ) : Type 0 where

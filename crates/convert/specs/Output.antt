@@ -1,42 +1,78 @@
--- What `plate` writes for a file, as document 01 says it ("The program and its two published layouts"). Assumes nothing: these are definitions.
+-- What `plate` writes for a file, as document 01 says it ("The program and its two published layouts") and document 02 (W1). Assumes nothing: these are definitions.
 -- `file` is the list of the file's bytes.
 use mathlib.Core.Path.{_≡_}
 use mathlib.Core.Bool.{Bool, true, false, cond, not, _&&_, _||_}
 use mathlib.Core.List.{List, [], _∷_, _++_}
-use Prim.Native.Nat.{ℕ, _+_, _*_, _/_, _%_, _^_, _≤_}
+use Prim.Native.Nat.{ℕ, _+_, _*_, _/_, _%_, _^_, _≤_, max}
 use lib.Dec.{eqb, ltb}
 use lib.ListN.{length, take, drop}
 use Rattle.facts.specs.Checks.{Check, check, firstOf}
 use Rattle.facts.specs.Tab.{tab}
 use Rattle.paint.specs.Sheet.{onSheet}
-use Rattle.pvr.specs.Header.{headerSize, widthField, heightField, metadataSize, isTwo, payloadOffset, headerChecks}
+use Rattle.files.specs.Fields.{startsWith}
+use Rattle.files.specs.Reading.{Says, fitsSize}
+use Rattle.files.specs.declared.Stored.{Stored}
+use Rattle.pvr.specs.Header as pvr
+use Rattle.pvr.specs.Reading.{pvrSays}
+use Rattle.ktx.specs.Header as ktx
+use Rattle.ktx.specs.Reading.{ktxSays}
 use Rattle.pvrtc.specs.Picture.{picture, sheetOf, pictureTexel}
 use Rattle.pvrtc.specs.Refusals.{need, zeroSide, dataChecks, gridChecks}
 use Rattle.pvrtc.specs.declared.Picture.{Picture}
 
--- The plate that a header describes.
+-- The first bytes of a file that is taken as KTX: AB 4B 54 58.
+abbrev pub ktxBytes : List ℕ
+ktxBytes = 0xAB ∷ 0x4B ∷ 0x54 ∷ 0x58 ∷ []
+
+-- All else is taken as PVR.
+abbrev pub isKtx : List ℕ → Bool
+isKtx file = startsWith file ktxBytes
+
+-- What a file says, read as what it is taken for.
+unfoldable pub saysOf : List ℕ → Says
+saysOf file = cond (isKtx file) (ktxSays file) (pvrSays file)
+
+-- The number of its header's refusal: 0 for none.
+abbrev pub headerRefusal : List ℕ → ℕ
+headerRefusal file = firstOf (saysOf file .refusals)
+
+-- The plate that it stores, and that plate's picture.
+abbrev pub storedIn : List ℕ → Stored
+storedIn file = saysOf file .plate
+
+abbrev pub pictureOf : Stored → Picture
+pictureOf s = picture (s .width) (s .height) (s .is2bpp)
+
 abbrev pub plateOf : List ℕ → Picture
-plateOf file = picture (widthField file) (heightField file) (isTwo file)
+plateOf file = pictureOf (storedIn file)
 
--- The data of level 0 follows the metadata. Metadata cut short leaves no data.
+-- The data of level 0. What is cut short before it leaves no data.
 abbrev pub levelData : List ℕ → List ℕ
-levelData file = drop (payloadOffset file) file
+levelData file = drop (storedIn file .payload) file
 
--- The most metadata that the program takes: 4,096 bytes.
-abbrev pub metadataLimit : ℕ
-metadataLimit = 4096
+-- The most metadata or key/value bytes that the program takes: 4,096.
+abbrev pub skippedLimit : ℕ
+skippedLimit = 4096
 
 -- The largest need that it takes: 32,768 bytes.
 abbrev pub needLimit : ℕ
 needLimit = 32768
 
--- So many bytes of a file are read, and no more: the header, the most metadata and the largest need.
-abbrev pub readLimit : ℕ
-readLimit = headerSize + metadataLimit + needLimit
+-- The bytes of a PVR file that can matter: the header, the most metadata and the largest need.
+abbrev pub pvrLimit : ℕ
+pvrLimit = pvr.headerSize + skippedLimit + needLimit
 
--- The metadata is above 4,096 bytes.
-abbrev pub longMetadata : (metadata : ℕ) → Bool
-longMetadata metadata = ltb metadataLimit metadata
+-- The bytes of a KTX file that can matter: there are a longer header and a size word.
+abbrev pub ktxLimit : ℕ
+ktxLimit = ktx.headerSize + skippedLimit + 4 + needLimit
+
+-- So many bytes of a file are read, and no more: the larger of the two.
+abbrev pub readLimit : ℕ
+readLimit = max pvrLimit ktxLimit
+
+-- More is skipped than 4,096 bytes.
+abbrev pub longSkipped : Stored → Bool
+longSkipped s = ltb skippedLimit (s .skipped)
 
 -- A side is above 1,024.
 abbrev pub longSide : Picture → Bool
@@ -46,22 +82,33 @@ longSide p = ltb 1024 (p .width) || ltb 1024 (p .height)
 abbrev pub largeNeed : Picture → Bool
 largeNeed p = ltb needLimit (need p)
 
--- The program's own limits on a plate with so many bytes of metadata.
-abbrev pub limitChecks : Picture → (metadata : ℕ) → List Check
-limitChecks p metadata =
-    check (longMetadata metadata) 21 ∷ check (zeroSide p) 1 ∷ check (longSide p) 22 ∷ check (largeNeed p) 23 ∷ []
+-- The file says another size than the need.
+abbrev pub otherSize : Stored → Bool
+otherSize s = not (fitsSize (s .size) (need (pictureOf s)))
+
+-- What is asked of a stored plate before its data: the program's own limits, and between them what KTX asks. A PVR file is never cut there,
+-- and says no size.
+abbrev pub limitChecks : Stored → List Check
+limitChecks s =
+    check (longSkipped s) 21
+    ∷ check (s .cut) 37
+    ∷ check (zeroSide (pictureOf s)) 1
+    ∷ check (longSide (pictureOf s)) 22
+    ∷ check (largeNeed (pictureOf s)) 23
+    ∷ check (otherSize s) 36
+    ∷ []
 
 -- What the block call can still refuse past them: the data, and then the grid.
 abbrev pub payloadChecks : Picture → (len : ℕ) → List Check
 payloadChecks p len = dataChecks p len ++ gridChecks p
 
--- The refusals of a plate with `len` bytes of data, in their order.
-abbrev pub ownChecks : Picture → (metadata len : ℕ) → List Check
-ownChecks p metadata len = limitChecks p metadata ++ payloadChecks p len
+-- The refusals of a stored plate with `len` bytes of data, in their order.
+abbrev pub ownChecks : Stored → (len : ℕ) → List Check
+ownChecks s len = limitChecks s ++ payloadChecks (pictureOf s) len
 
 -- The refusals of the program, in their order: the header's, then its own.
 abbrev pub programChecks : List ℕ → List Check
-programChecks file = headerChecks file ++ ownChecks (plateOf file) (metadataSize file) (length (levelData file))
+programChecks file = saysOf file .refusals ++ ownChecks (storedIn file) (length (levelData file))
 
 -- The number that the program says of a file: 0 for none.
 abbrev pub programRefusal : List ℕ → ℕ

@@ -4,11 +4,32 @@ ghost use Prim.Native.Nat.{_+_, _*_, _/_, _%_, _<_, _≤_};
 ghost use lib.ListN.{length, getD};
 ghost use Rattle.facts.specs.Checks.{firstOf};
 ghost use Rattle.paint.specs.Paint.{painted};
-ghost use Rattle.convert.specs.Output.{longSide, limitChecks, refusedLine, byteOf, tgaHeader, tgaOf, laid, Room, Converted, ConvertedInRoom};
+ghost use Rattle.files.specs.Reading.{readingOf};
+ghost use Rattle.convert.specs.Output.{saysOf, pictureOf, longSide, limitChecks, refusedLine, byteOf, tgaHeader, tgaOf, laid, Room, Converted, ConvertedInRoom};
 ghost use Rattle.convert.specs.Inner.{PlateConverted, Laid, TgaFits};
-use pvr::Header;
+use files::Reading;
+use files::Stored;
 use pvrtc::Decoded;
 use pvrtc::Picture;
+
+// The first bytes of a file that is taken as KTX.
+const KTX_BYTES: [u8; 4] = [0xAB, 0x4B, 0x54, 0x58];
+
+// What a file says, by the reader that its first bytes choose.
+fn read_file(file: &[u8]) -> Reading
+    ensures { λ r. ⌜ r ≡ readingOf (saysOf (now (file .entry))) ⌝ }
+{
+    if files::starts_with(file, &KTX_BYTES) {
+        return ktx::read_plate(file);
+    }
+    pvr::read_plate(file)
+}
+
+fn picture_of(s: Stored) -> Picture
+    ensures { λ r. ⌜ r ≡ pictureOf s ⌝ }
+{
+    pvrtc::picture_of(s.width, s.height, s.is2bpp)
+}
 
 fn has_long_side(p: Picture) -> bool
     ensures { λ r. ⌜ r ≡ longSide p ⌝ }
@@ -16,21 +37,30 @@ fn has_long_side(p: Picture) -> bool
     p.width > 1024 || p.height > 1024
 }
 
-// The number of the first of the program's limits that a plate does not keep: 0 for none.
-fn limit_refusal(p: Picture, metadata: usize) -> u64
-    ensures { λ r. ⌜ (r ≡ firstOf (limitChecks p metadata)) × (r ≤ 23) ⌝ }
+// The number of the first refusal of a stored plate that its data has no part in: 0 for none.
+fn limit_refusal(s: Stored) -> u64
+    ensures { λ r. ⌜ (r ≡ firstOf (limitChecks s)) × (r ≤ 37) ⌝ }
 {
-    if metadata > 4096 {
+    if s.skipped > 4096 {
         return 21;
     }
+    if s.cut {
+        return 37;
+    }
+    let p = picture_of(s);
     if pvrtc::has_zero_side(p) {
         return 1;
     }
     if has_long_side(p) {
         return 22;
     }
-    if grid::need_of(pvrtc::grid_of(p)) > 32768 {
+    let need = grid::need_of(pvrtc::grid_of(p));
+    if need > 32768 {
         return 23;
+    }
+    let said = s.size;
+    if !files::fits_size(said, need) {
+        return 36;
     }
     0
 }
@@ -145,23 +175,17 @@ fn put_tga(w: usize, h: usize, words: &[u32], out: &mut [u8]) -> usize
 }
 
 // What is written for a plate whose header is accepted: the picture, or the line of the first refusal.
-fn convert_plate(
-    data: &[u8],
-    metadata: usize,
-    p: Picture,
-    image: &mut [u32],
-    out: &mut [u8],
-) -> usize
+fn convert_plate(data: &[u8], s: Stored, image: &mut [u32], out: &mut [u8]) -> usize
     requires { ⌜ Room (length (now image)) (length (now out)) ⌝ }
-    ensures { λ r. ⌜ PlateConverted p metadata (now («data» .entry)) (now (image .entry)) (now (image .exit)) (now (out .entry)) (now (out .exit)) r ⌝ }
+    ensures { λ r. ⌜ PlateConverted s (now («data» .entry)) (now (image .entry)) (now (image .exit)) (now (out .entry)) (now (out .exit)) r ⌝ }
 {
-    let limit = limit_refusal(p, metadata);
+    let limit = limit_refusal(s);
     if limit > 0 {
         return put_refused(limit, out);
     }
-    let decoded = pvrtc::decode_picture(data, p, image);
+    let decoded = pvrtc::decode_picture(data, picture_of(s), image);
     match decoded {
-        Decoded::Done => put_tga(p.width, p.height, image, out),
+        Decoded::Done => put_tga(s.width, s.height, image, out),
         Decoded::Refused(f) => put_refused(pvrtc::refusal_number(f), out),
     }
 }
@@ -171,19 +195,13 @@ pub fn convert(file: &[u8], image: &mut [u32], out: &mut [u8]) -> usize
     requires { ⌜ Room (length (now image)) (length (now out)) ⌝ }
     ensures { λ r. ⌜ Converted (now (file .entry)) (now (image .entry)) (now (image .exit)) (now (out .entry)) (now (out .exit)) r ⌝ }
 {
-    let header = pvr::read_header(file);
-    match header {
-        Header::Plate {
-            width,
-            height,
-            is2bpp,
-            payload,
-        } => {
-            let start = facts::least(payload, file.len());
-            let p = pvrtc::picture_of(width, height, is2bpp);
-            convert_plate(&file[start..], payload - 52, p, image, out)
+    let reading = read_file(file);
+    match reading {
+        Reading::Plate(s) => {
+            let start = facts::least(s.payload, file.len());
+            convert_plate(&file[start..], s, image, out)
         }
-        Header::Refused(f) => put_refused(pvr::header_refusal_number(f), out),
+        Reading::Refused(n) => put_refused(n, out),
     }
 }
 

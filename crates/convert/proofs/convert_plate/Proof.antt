@@ -1,9 +1,13 @@
 -- `convert::convert_plate` meets its contract. Assumes nothing.
+use mathlib.Core.Path.{_≡_}
 use native.Mathlib.Omega.{arith}
 use borrow.Author.Needs.{needs}
+use Rattle.facts.specs.Checks.{firstOf}
+use Rattle.pvrtc.specs.Calls.{BlockDecoded}
+use Rattle.pvrtc.proofs.Unique.{number-small}
+use Rattle.convert.specs.Output.{pictureOf, limitChecks}
 use Rattle.convert.proofs.Answers.{by-limit, by-call, by-picture}
 use Rattle.convert.proofs.Limits.{says-none, tga-fits}
-use Rattle.pvrtc.proofs.Unique.{number-small}
 use Rattle.convert.proofs.convert_plate.Statement.{statement}
 use Rattle.convert.proofs.convert_plate.Tie as tie
 
@@ -20,8 +24,10 @@ returns : tie.Need-returns
 returns c =
     let k = c .before .before .before .before .before in
     let a = k .before .before .before .before .args in
-    by-limit (a .p) (a .metadata) (a .«data» .now) (k .limit-refusal .ensures .0) (c .before .before .before .before .if1 .taken)
-    (c .before .before .put-refused .ensures)
+    by-limit (a .s) (a .«data» .now) (k .limit-refusal .ensures .0) (c .before .before .before .before .if1 .taken) (c .before .before .put-refused .ensures)
+
+picture-of-requires : tie.Need-picture-of-requires
+picture-of-requires c κs = search needs
 
 decode-picture-requires : tie.Need-decode-picture-requires
 decode-picture-requires c κs = search needs
@@ -29,13 +35,24 @@ decode-picture-requires c κs = search needs
 enum-told : tie.Need-enum-told
 enum-told c = search needs
 
+-- past the limits, when the picture's description is made
+abbrev made : tie.After-decode-picture → tie.After-picture-of
+made k = k .before .before
+
+none-exceeded : (k : tie.After-picture-of) → firstOf (limitChecks (k .before .before .before .before .before .before .args .s)) ≡ 0
+none-exceeded k = says-none (k .before .before .limit-refusal .ensures .0) (k .before .if1 .left)
+
+-- and what the call on it promises
+call : (k : tie.After-decode-picture) → let a = made k .before .before .before .before .before .before .args in
+    BlockDecoded (pictureOf (a .s)) (a .«data» .now) (a .image .now) (k .decode-picture .last .1 .1 .0) (k .decode-picture .result)
+call k = rw (made k .picture-of .ensures) at (k .decode-picture .ensures)
+
 put-tga-requires : tie.Need-put-tga-requires
 put-tga-requires c κs =
     let k = c .before .before .before .before .before .before in
-    let l = k .before .before .before in
+    let l = k .before .before .before .before in
     let a = l .before .before .before .before .args in
-    let none = says-none (l .limit-refusal .ensures .0) (k .before .before .if1 .left) in
-    tga-fits (a .p) (a .metadata) none (l .before .before .before .before .pre) (k .decode-picture .kept .1 .1 .0)
+    tga-fits (a .s) (none-exceeded (made k)) (l .before .before .before .before .pre) (k .decode-picture .kept .1 .1 .0)
 
 enum-known-decoded : tie.Need-enum-known-decoded
 enum-known-decoded c = search needs
@@ -48,7 +65,7 @@ put-refused-requires-2 c κs =
     let few = number-small (c .before .before .before .decoded .given .0 .0) in (
       omega (arith, c .before .refusal-number .ensures, few),
       omega
-          (arith, c .before .before .before .before .before .before .before .before .before .before .before .before .before .before .pre .bytes),
+          (arith, c .before .before .before .before .before .before .before .before .before .before .before .before .before .before .before .pre .bytes),
     )
 
 same-length-2 : tie.Need-same-length-2
@@ -60,10 +77,8 @@ same-length-3 c = search needs
 returns-2 : tie.Need-returns-2
 returns-2 c =
     let k = c .before .before .before .before .before .before .before .before .before in
-    let l = k .before .before .before in
-    let a = l .before .before .before .before .args in
-    let none = says-none (l .limit-refusal .ensures .0) (k .before .before .if1 .left) in
-    by-picture (a .p) (a .metadata) (a .«data» .now) none (l .before .before .before .before .pre .words) (k .decode-picture .ensures)
+    let a = made k .before .before .before .before .before .before .args in
+    by-picture (a .s) (a .«data» .now) (none-exceeded (made k)) (made k .before .before .before .before .before .before .pre .words) (call k)
     (c .before .before .before .before .before .enum-told .given .1) (c .before .before .put-tga .ensures)
 
 same-length-4 : tie.Need-same-length-4
@@ -75,10 +90,8 @@ same-length-5 c = search needs
 returns-3 : tie.Need-returns-3
 returns-3 c =
     let k = c .before .before .before .before .before .before .before .before .before .before in
-    let l = k .before .before .before in
-    let a = l .before .before .before .before .args in
-    let none = says-none (l .limit-refusal .ensures .0) (k .before .before .if1 .left) in
-    by-call (a .p) (a .metadata) (a .«data» .now) none (l .before .before .before .before .pre .words) (k .decode-picture .ensures)
+    let a = made k .before .before .before .before .before .before .args in
+    by-call (a .s) (a .«data» .now) (none-exceeded (made k)) (made k .before .before .before .before .before .before .pre .words) (call k)
     (c .before .before .before .before .before .before .decoded .given .1) (c .before .before .before .before .refusal-number .ensures)
     (c .before .before .put-refused2 .ensures)
 
@@ -90,6 +103,7 @@ convert-plate-spec =
     put-refused-requires
     same-length
     returns
+    picture-of-requires
     decode-picture-requires
     enum-told
     put-tga-requires
