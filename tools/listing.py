@@ -1,0 +1,56 @@
+"""What the tools share that write what a program of the gate must print: the tables of its cases, its lines, and the comparison."""
+import functools
+import os
+import re
+import sys
+
+import plates
+
+ROOT = os.path.dirname(os.path.dirname(os.path.abspath(__file__)))
+
+# What `plate` writes for a file, decoded once.
+written = functools.cache(plates.written)
+
+
+def tables(crate):
+    """The constants of a crate's tables, as lists of numbers or of rows."""
+    text = open(os.path.join(ROOT, "crates", crate, "src/tables.rt")).read()
+    found = {}
+    for name, body in re.findall(r"pub const (\w+): [^=]*= (\[.*?\]);", re.sub(r"//[^\n]*", "", text), re.S):
+        found[name] = eval(body)
+    return found
+
+
+def plain(table, size):
+    """The bytes of a plain file: the header of the tables, and bytes by a rule behind it."""
+    head = b"".join(v.to_bytes(4, "little") for v in table["PLAIN"])
+    return bytearray(head + bytes((37 * i + 11) % 251 for i in range(len(head), size)))
+
+
+def put(file, at, v):
+    file[at:at + 4] = v.to_bytes(4, "little")
+
+
+def sum_of(numbers):
+    """A checksum of bytes, or of words."""
+    total = 0
+    for v in numbers:
+        total = (total * 31 + v) % 2147483647
+    return total
+
+
+def line(name, file):
+    """A case's name, and what `plate` writes for its file: a refusal's line as it is; of a picture, how many bytes and their checksum."""
+    out = written(bytes(file))
+    said = out.decode() if len(out) < 12 else "%d bytes, sum %d\n" % (len(out), sum_of(out))
+    return "%s: %s" % (name, said)
+
+
+def finish(crate, listing):
+    """Prints a listing, or with --check compares it with the crate's `stdout`. Answers the exit status."""
+    if sys.argv[1:] != ["--check"]:
+        sys.stdout.write(listing)
+        return 0
+    same = listing == open(os.path.join(ROOT, "crates", crate, "stdout")).read()
+    print("%s: crates/%s/stdout is %s" % (crate, crate, "unchanged" if same else "not what tools/%s gives" % crate))
+    return not same
