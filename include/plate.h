@@ -3,15 +3,19 @@
  * They take a run of bytes as a pointer and a length, and lent words as a pointer and their number. They keep within both, call nothing,
  * and hold nothing back. A refusal is a number, 0 for none:
  *
- *   1  a side is 0                              4  too few lent words
- *   2  a side is above 65,536                   5  blocks across or down is not a power of two
- *   3  too little data                          6  no such texel or row
- *  11  a file shorter than its header          13  a pixel format other than 0 to 3
- *  12  not a PVR version 3 file                14  depth, surfaces or faces not 1, or no level
+ *   1  a side is 0                                 4  too few lent words
+ *   2  a side is above 65,536                      5  blocks across or down is not a power of two
+ *   3  too little data                             6  no such texel or row
+ *  11  a file shorter than its header             13  a pixel format other than 0 to 3
+ *  12  not a PVR version 3 file                   14  depth, surfaces or faces not 1, or no level
+ *  31  a KTX file shorter than its header         35  depth or array elements not 0, or faces not 1
+ *  32  not a KTX version 1 file                   36  the size word is not the need
+ *  33  a KTX file that is not little-endian       37  key/value bytes or size word past the end
+ *  34  type or format not 0, or not PVRTC
  *
  * The program `plate` has three more, which no call answers. All of these words stand in docs/refusals.txt too, for the program to say.
  *
- *  21  metadata above 4,096 bytes              23  a need above 32,768 bytes
+ *  21  metadata or key/value bytes above 4,096    23  a need above 32,768 bytes
  *  22  a side is above 1,024
  *
  * A texel is blue + 256 green + 65,536 red + 16,777,216 alpha.
@@ -41,6 +45,15 @@ uint64_t plate_picture(const uint8_t *data, size_t len, uint64_t width, uint64_t
 /* A field of a PVR version 3 file's header. 0: the refusal's number; 1: width; 2: height; 3: bits a texel, 2 or 4; 4: where the picture's
  * data starts. Fields 1 to 4 of a refused header, and any other field, are 0. */
 uint64_t plate_header(const uint8_t *file, size_t len, uint32_t field);
+
+/* A field of a KTX version 1 file's header. 0: the refusal's number, the first of 31, 32, 33, 34, 35 and 37 that holds; 1: width; 2: height;
+ * 3: bits a texel, 2 or 4; 4: where the picture's data starts; 5: the size word that stands before it. Fields 1 to 5 of a refused header, and
+ * any other field, are 0. */
+uint64_t plate_ktx(const uint8_t *file, size_t len, uint32_t field);
+
+/* The picture of a KTX version 1 file into `room` lent words, laid as plate_picture lays it. Answers the refusal's number, the first of the
+ * header's and then 1, 2, 36, 3, 4 and 5 that holds; refused, every word stays. */
+uint64_t plate_ktx_picture(const uint8_t *file, size_t len, uint32_t *image, size_t room);
 
 #ifdef __cplusplus
 }
