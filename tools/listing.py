@@ -4,12 +4,9 @@ import os
 import re
 import sys
 
-import plates
+from plates import written
 
 ROOT = os.path.dirname(os.path.dirname(os.path.abspath(__file__)))
-
-# What `plate` writes for a file, decoded once.
-written = functools.cache(plates.written)
 
 
 def tables(crate):
@@ -31,19 +28,28 @@ def put(file, at, v):
     file[at:at + 4] = v.to_bytes(4, "little")
 
 
-def sum_of(numbers):
-    """A checksum of bytes, or of words."""
+def checksum(numbers, factor, modulus):
     total = 0
     for v in numbers:
-        total = (total * 31 + v) % 2147483647
+        total = (total * factor + v) % modulus
     return total
 
 
-def line(name, file):
-    """A case's name, and what `plate` writes for its file: a refusal's line as it is; of a picture, how many bytes and their checksum."""
-    out = written(bytes(file))
-    said = out.decode() if len(out) < 12 else "%d bytes, sum %d\n" % (len(out), sum_of(out))
-    return "%s: %s" % (name, said)
+def sum_of(data):
+    """The checksum of bytes."""
+    return checksum(data, 31, 2147483647)
+
+
+def sum_of_words(words):
+    """The checksum of words."""
+    return checksum(words, 1103515245, 8589934583)
+
+
+@functools.cache
+def output(file):
+    """What `plate` writes for a file, worked out once: a refusal's line as it is; of a picture, how many bytes and their checksum."""
+    out = written(file)
+    return out.decode() if len(out) < 12 else "%d bytes, sum %d\n" % (len(out), sum_of(out))
 
 
 def finish(crate, listing):

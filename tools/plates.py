@@ -3,6 +3,7 @@
 
 It shares nothing with the crates but those documents. The tools that know what must come out import it.
 """
+import functools
 
 PVR_VERSION = b"PVR\x03"
 KTX_BEGIN = b"\xABKTX"
@@ -135,10 +136,16 @@ class Grid:
         return blue | green << 8 | red << 16 | alpha << 24
 
 
+@functools.cache
 def decode(data, width, height, two):
-    """The words of a picture, in row order."""
+    """The words of a picture, in row order. The same data is decoded once."""
     grid = Grid(data, width, height, two)
     return [grid.word(x, y) for y in range(height) for x in range(width)]
+
+
+def decode_at(file, width, height, two, payload):
+    """The same from the bytes of a file that it needs."""
+    return decode(bytes(file[payload:payload + need(width, height, two)]), width, height, two)
 
 
 # ---- refusals
@@ -211,9 +218,9 @@ def ktx_header(file):
 
 def ktx_picture(file, room):
     """What decoding a KTX file into so many words answers: a refusal's number, or 0 and the picture's words."""
-    faults, (width, height, two, payload, _) = ktx_file(file)
-    number = first(KTX_PICTURE_ORDER, faults | holding({4: width * height > room}))
-    return number, None if number else decode(file[payload:], width, height, two)
+    faults, plate = ktx_file(file)
+    number = first(KTX_PICTURE_ORDER, faults | holding({4: plate[0] * plate[1] > room}))
+    return number, None if number else decode_at(file, *plate[:4])
 
 
 # ---- the program
@@ -231,6 +238,6 @@ def written(file):
     number, plate = refusal(file)
     if number:
         return b"refused %d\n" % number
-    width, height, two, at = plate
+    width, height = plate[:2]
     head = bytes([0, 0, 2]) + bytes(9) + width.to_bytes(2, "little") + height.to_bytes(2, "little") + bytes([0x20, 0x28])
-    return head + b"".join(w.to_bytes(4, "little") for w in decode(file[at:], width, height, two))
+    return head + b"".join(w.to_bytes(4, "little") for w in decode_at(file, *plate))

@@ -1,0 +1,400 @@
+// Prints what the KTX calls answer and what `plate` writes for some hundreds of files, each a plain one with something changed. What it must
+// print, in the file `stdout`, was written by tools/replay_ktx. It is one module, since what a function prints is nothing that it could promise.
+mod tables;
+
+use ktx::Header;
+
+// What is chosen of a file, where it ends, and how many words are lent for its picture.
+struct Case {
+    format: u32,
+    key_values: u32,
+    width: u32,
+    height: u32,
+    size: u32,
+    end: usize,
+    room: usize,
+}
+
+fn main() {
+    let mut bytes = [0u8; 66000];
+    print_files(&mut bytes);
+}
+
+fn print_files(bytes: &mut [u8]) {
+    print_cuts(bytes);
+    print_fields(&tables::FIELDS, bytes);
+    print_turned(bytes);
+    print_cases(b"case", &tables::CASES, bytes);
+    print_cases(b"tiny", &tables::TINY, bytes);
+    print_faults(bytes);
+}
+
+// The first bytes of a plain file: every cut of the header, of the key/value bytes, of the size word and of the data.
+fn print_cuts(bytes: &mut [u8]) {
+    for len in 0..115 {
+        print_cut(bytes, len);
+    }
+}
+
+fn print_cut(bytes: &mut [u8], len: usize) {
+    lay(bytes, plain_case());
+    print_name(b"cut", len as u64);
+    print_answers(bytes, len, 8200);
+}
+
+// Four bytes of a plain file with another value.
+fn print_fields(listed: &[[u32; 2]], bytes: &mut [u8]) {
+    for i in 0..listed.len() {
+        print_field(listed[i], bytes);
+    }
+}
+
+fn print_field(row: [u32; 2], bytes: &mut [u8]) {
+    lay(bytes, plain_case());
+    set_u32(bytes, row[0], row[1]);
+    print_name(b"place", row[0] as u64);
+    io::write_all(1, b" has ");
+    io::print_hex(1, row[1] as u64, 8);
+    print_answers(bytes, 66000, 8200);
+}
+
+// A plain file as a big-endian machine writes it: all fields turned.
+fn print_turned(bytes: &mut [u8]) {
+    lay(bytes, plain_case());
+    turn_fields(bytes);
+    io::write_all(1, b"all fields turned");
+    print_answers(bytes, 66000, 8200);
+}
+
+// The listed files.
+fn print_cases(name: &[u8], listed: &[[u32; 7]], bytes: &mut [u8]) {
+    for i in 0..listed.len() {
+        print_case(name, case_of(listed[i]), bytes);
+    }
+}
+
+fn print_case(name: &[u8], c: Case, bytes: &mut [u8]) {
+    lay(bytes, c);
+    io::write_all(1, name);
+    io::write_all(1, b" ");
+    io::print_hex(1, c.format as u64, 4);
+    print_name(b", key/values", c.key_values as u64);
+    print_name(b",", c.width as u64);
+    print_name(b" x", c.height as u64);
+    print_name(b", size", c.size as u64);
+    print_name(b", end", c.end as u64);
+    print_name(b", room", c.room as u64);
+    print_answers(bytes, c.end, c.room);
+}
+
+// Every two refusals at once.
+fn print_faults(bytes: &mut [u8]) {
+    for i in 0..15 {
+        print_with(bytes, i);
+    }
+}
+
+// The refusal at place i of the order, with itself and with each behind it.
+fn print_with(bytes: &mut [u8], i: usize) {
+    let t = tables::ORDER;
+    for j in i..15 {
+        print_two(bytes, t[i], t[j]);
+    }
+}
+
+// A plain file with two faults. The one that is later in the order comes in first.
+fn print_two(bytes: &mut [u8], first: u64, second: u64) {
+    let c = faulty(first, second);
+    lay(bytes, c);
+    bring(bytes, second);
+    bring(bytes, first);
+    print_name(b"faults", first);
+    print_name(b" and", second);
+    print_answers(bytes, c.end, c.room);
+}
+
+fn make_case(
+    format: u32,
+    key_values: u32,
+    width: u32,
+    height: u32,
+    size: u32,
+    end: usize,
+    room: usize,
+) -> Case {
+    Case {
+        format: format,
+        key_values: key_values,
+        width: width,
+        height: height,
+        size: size,
+        end: end,
+        room: room,
+    }
+}
+
+// A row of the tables.
+fn case_of(row: [u32; 7]) -> Case {
+    make_case(
+        row[0],
+        row[1],
+        row[2],
+        row[3],
+        row[4],
+        row[5] as usize,
+        row[6] as usize,
+    )
+}
+
+// A file that nothing refuses, and more words than it takes.
+fn plain_case() -> Case {
+    make_case(0x8c02, 12, 8, 8, 32, 66000, 8200)
+}
+
+// A plain file with what two refusals are given for, as far as it is one of the chosen numbers.
+fn faulty(first: u64, second: u64) -> Case {
+    let c = with_fault(with_fault(plain_case(), second), first);
+    let size = size_with(first, second, c.width, c.height);
+    let end = end_with(first, second, c.key_values);
+    make_case(c.format, c.key_values, c.width, c.height, size, end, c.room)
+}
+
+// One that asks a side may undo another that does.
+fn with_fault(c: Case, fault: u64) -> Case {
+    match fault {
+        21 => make_case(c.format, 4097, c.width, c.height, c.size, c.end, c.room),
+        1 => with_sides(c, c.width, 0),
+        2 => with_sides(c, 65537, c.height),
+        22 => with_sides(c, 1025, c.height),
+        23 => with_sides(c, 1000, 1000),
+        4 => make_case(c.format, c.key_values, c.width, c.height, c.size, c.end, 63),
+        5 => with_sides(c, 12, 8),
+        _ => c,
+    }
+}
+
+fn with_sides(c: Case, width: u32, height: u32) -> Case {
+    make_case(c.format, c.key_values, width, height, c.size, c.end, c.room)
+}
+
+// Whether a fault is one of the two.
+fn either(first: u64, second: u64, fault: u64) -> bool {
+    first == fault || second == fault
+}
+
+// The need, or what is never one.
+fn size_with(first: u64, second: u64, width: u32, height: u32) -> u32 {
+    if either(first, second, 36) {
+        33
+    } else {
+        need_of(width, height)
+    }
+}
+
+// The need at 4bpp of a picture with 0, 8 or 1,000 rows.
+fn need_of(width: u32, height: u32) -> u32 {
+    let across = (width % 131072 + 3) / 4;
+    match height {
+        0 => 0,
+        8 => 16 * across,
+        _ => 2000 * across,
+    }
+}
+
+// Where the file ends: in its header, in its size word, in its data, or behind it.
+fn end_with(first: u64, second: u64, key_values: u32) -> usize {
+    let payload = 68 + (key_values as usize);
+    if either(first, second, 31) {
+        return 63;
+    }
+    if either(first, second, 37) {
+        return payload - 1;
+    }
+    if either(first, second, 3) {
+        return payload + 31;
+    }
+    66000
+}
+
+// Brings in what a refusal is given for that is none of the chosen numbers.
+fn bring(bytes: &mut [u8], fault: u64) {
+    match fault {
+        32 => set_u32(bytes, 4, 0xbb303220),
+        33 => set_u32(bytes, 12, 0x01020304),
+        34 => set_u32(bytes, 28, 0x8c04),
+        35 => set_u32(bytes, 52, 6),
+        _ => {}
+    }
+}
+
+// Lays a plain file with what is chosen of it. Its size word is laid where there is a place for it.
+fn lay(bytes: &mut [u8], c: Case) {
+    fill_data(bytes);
+    set_plain(bytes);
+    set_u32(bytes, 28, c.format);
+    set_u32(bytes, 36, c.width);
+    set_u32(bytes, 40, c.height);
+    set_u32(bytes, 60, c.key_values);
+    if c.key_values < 66000 {
+        set_u32(bytes, 64 + c.key_values, c.size);
+    }
+}
+
+// Puts bytes behind the header: byte i by the rule (37i + 11) % 251.
+fn fill_data(bytes: &mut [u8]) {
+    for i in 64..66000 {
+        set_byte(bytes, i, ((37 * i + 11) % 251) as u8);
+    }
+}
+
+// The header of a plate that nothing refuses.
+fn set_plain(bytes: &mut [u8]) {
+    let t = tables::PLAIN;
+    for i in 0..16 {
+        set_u32(bytes, 4 * (i as u32), t[i]);
+    }
+}
+
+// Turns the fields of a plain file, and its size word.
+fn turn_fields(bytes: &mut [u8]) {
+    let t = tables::PLAIN;
+    for i in 3..16 {
+        set_turned(bytes, 4 * (i as u32), t[i]);
+    }
+    set_turned(bytes, 76, 32);
+}
+
+// Puts v at place i, if there is one.
+fn set_byte(bytes: &mut [u8], i: usize, v: u8) {
+    if i < bytes.len() {
+        bytes[i] = v;
+    }
+}
+
+// Puts v at `at`, four bytes, little-endian.
+fn set_u32(bytes: &mut [u8], at: u32, v: u32) {
+    let i = at as usize;
+    set_byte(bytes, i, (v % 256) as u8);
+    set_byte(bytes, i + 1, (v / 256 % 256) as u8);
+    set_byte(bytes, i + 2, (v / 65536 % 256) as u8);
+    set_byte(bytes, i + 3, (v / 16777216 % 256) as u8);
+}
+
+// The same, big-endian.
+fn set_turned(bytes: &mut [u8], at: u32, v: u32) {
+    let i = at as usize;
+    set_byte(bytes, i, (v / 16777216 % 256) as u8);
+    set_byte(bytes, i + 1, (v / 65536 % 256) as u8);
+    set_byte(bytes, i + 2, (v / 256 % 256) as u8);
+    set_byte(bytes, i + 3, (v % 256) as u8);
+}
+
+// What the calls answer for the first `end` bytes of a file, and so many words.
+fn print_answers(bytes: &[u8], end: usize, room: usize) {
+    print_header(bytes, end);
+    print_decoded(bytes, end, room);
+    print_converted(bytes, end);
+}
+
+// What the header's reader answers.
+fn print_header(bytes: &[u8], end: usize) {
+    let n = facts::least(end, bytes.len());
+    let header = ktx::read_header(&bytes[..n]);
+    match header {
+        Header::Plate {
+            width,
+            height,
+            is2bpp,
+            payload,
+            size,
+        } => {
+            print_sides(width, height, is2bpp);
+            print_name(b", data at", payload as u64);
+            print_name(b", size", size as u64);
+        }
+        Header::Refused(f) => {
+            print_name(b": header refused", ktx::header_refusal_number(f));
+        }
+    }
+}
+
+// The sides and the depth that a header says.
+fn print_sides(width: usize, height: usize, is2bpp: bool) {
+    print_name(b": header", width as u64);
+    print_name(b" x", height as u64);
+    if is2bpp {
+        io::write_all(1, b", 2bpp");
+    } else {
+        io::write_all(1, b", 4bpp");
+    }
+}
+
+// What decoding into so many words answers, of at most 131,072.
+fn print_decoded(bytes: &[u8], end: usize, room: usize) {
+    let mut image = [0u32; 131072];
+    let n = facts::least(end, bytes.len());
+    let m = facts::least(room, 131072);
+    print_lent(&bytes[..n], &mut image[..m]);
+}
+
+// The number of the refusal, 0 for none, and the sum over the lent words afterwards, which were 0.
+fn print_lent(file: &[u8], words: &mut [u32]) {
+    let decoded = ktx::decode_ktx(file, words);
+    print_name(b"; picture", ktx::decoded_number(decoded));
+    print_name(b", sum", sum_of_words(words));
+}
+
+// What is written for the first `end` bytes of a file.
+fn print_converted(bytes: &[u8], end: usize) {
+    io::write_all(1, b"; program ");
+    let mut image = [0u32; 131072];
+    let mut out = [0u8; 524306];
+    let n = facts::least(end, bytes.len());
+    let r = convert::convert(&bytes[..n], &mut image, &mut out);
+    print_output(&out[..r]);
+}
+
+// A refusal's line as it is; of a picture, how many bytes and their checksum.
+fn print_output(bytes: &[u8]) {
+    if bytes.len() < 12 {
+        io::write_all(1, bytes);
+    } else {
+        io::print_decimal(1, bytes.len() as u64);
+        io::write_all(1, b" bytes, sum ");
+        io::print_decimal(1, sum_of(bytes));
+        io::write_all(1, b"\n");
+    }
+}
+
+// A checksum of bytes.
+fn sum_of(bytes: &[u8]) -> u64 {
+    let mut s: u64 = 0;
+    for i in 0..bytes.len() {
+        s = with_byte(s, bytes[i]);
+    }
+    s
+}
+
+fn with_byte(s: u64, byte: u8) -> u64 {
+    ((s % 2147483647) * 31 + (byte as u64)) % 2147483647
+}
+
+// A checksum of words. Its modulus is the largest prime below 2 to the 33rd, so a change of one word alone always changes it.
+fn sum_of_words(words: &[u32]) -> u64 {
+    let mut s: u64 = 0;
+    for i in 0..words.len() {
+        s = with_word(s, words[i]);
+    }
+    s
+}
+
+fn with_word(s: u64, word: u32) -> u64 {
+    (s % 8589934583 * 1103515245 + word as u64) % 8589934583
+}
+
+// A name and a number of a line.
+fn print_name(name: &[u8], n: u64) {
+    io::write_all(1, name);
+    io::write_all(1, b" ");
+    io::print_decimal(1, n);
+}
