@@ -1,5 +1,6 @@
-// Prints what the KTX calls answer and what `plate` writes for some hundreds of files, each a plain one with something changed. What it must
-// print, in the file `stdout`, was written by tools/replay_ktx. It is one module, since what a function prints is nothing that it could promise.
+// Prints what the KTX calls answer and what `plate` writes for some four hundred files, each a plain one with something changed. What it
+// must print, in the file `stdout`, was written by tools/replay_ktx. It is one module, since what a function prints is nothing that it
+// could promise.
 mod tables;
 
 use ktx::Header;

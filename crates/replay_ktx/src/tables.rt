@@ -218,8 +218,8 @@ pub const CASES: [[u32; 7]; 83] = [
     [0x8c03, 12, 16, 8, 32, 112, 127],
 ];
 
-// The same for pictures of one block across or down. The published extension stores two blocks each way at least: so each of them stands here with
-// the need of the blocks that cover it, and with 32 bytes, which gets 36 as long as a file's need is that of the blocks that cover it.
+// The same for pictures of one block across or down, of which the published extension stores two by two. Each stands here with the need of the
+// blocks that cover it, and with the 32 bytes of a published file, which get 36 until the stored grid is read.
 pub const TINY: [[u32; 7]; 12] = [
     [0x8c02, 12, 4, 4, 8, 88, 16],
     [0x8c02, 12, 4, 4, 32, 112, 16],
