@@ -60,16 +60,29 @@ module _ (s : Says) where
       by false q r = absurd (eqb-false _ 0 q (sym (ap numberOf r)))
 
 -- whether all numbers of a list are below m
-abbrev pub allBelow : (m : ℕ) → List Check → Bool
-allBelow m [] = true
-allBelow m (c ∷ l) = ltb (c .number) m && allBelow m l
+abbrev pub numbersBelow : (m : ℕ) → List Check → Bool
+numbersBelow m [] = true
+numbersBelow m (c ∷ l) = ltb (c .number) m && numbersBelow m l
 
 -- then so is the one that it says
-pub said-below : (m : ℕ) (l : List Check) → T (allBelow m l) → 0 < m → firstOf l < m
+pub said-below : (m : ℕ) (l : List Check) → T (numbersBelow m l) → 0 < m → firstOf l < m
 unfolding firstOf
 said-below m [] e h = h
-said-below m (c ∷ l) e h = by (c .holds) (said-below m l (and-right (ltb (c .number) m) (allBelow m l) e) h)
+said-below m (c ∷ l) e h = by (c .holds) (said-below m l (and-right (ltb (c .number) m) (numbersBelow m l) e) h)
   where
     by : (t : Bool) → firstOf l < m → cond t (c .number) (firstOf l) < m
-    by true rest = ltb→lt (c .number) m (and-left (ltb (c .number) m) (allBelow m l) e)
+    by true rest = ltb→lt (c .number) m (and-left (ltb (c .number) m) (numbersBelow m l) e)
     by false rest = rest
+
+-- two files that say the same: the same number, and the same plate
+pub record SameSays (s t : Says) : Type 0 where
+  pub number : firstOf (s .refusals) ≡ firstOf (t .refusals)
+  pub plate : s .plate ≡ t .plate
+
+-- two files that say the same of their headers: the same number, and as much to skip
+pub record SameHead (s t : Says) : Type 0 where
+  pub number : firstOf (s .refusals) ≡ firstOf (t .refusals)
+  pub skipped : s .plate .skipped ≡ t .plate .skipped
+
+pub head-same : {s t : Says} → SameSays s t → SameHead s t
+head-same a = record { number = a .number; skipped = ap (λ (p : Stored). p .skipped) (a .plate) }

@@ -1,10 +1,14 @@
 -- A number in a file depends on its own bytes, and so on none behind them. Assumes nothing.
-use mathlib.Core.Path.{_≡_, ap, _∙_}
+use mathlib.Core.Path.{_≡_, refl, ap, _∙_}
+use mathlib.Core.Bool.{Bool, true, false, not}
 use mathlib.Core.List.{List, _++_}
 use Prim.Native.Nat.{ℕ, _+_, _*_, _<_, _≤_}
 use native.Mathlib.Nat.{add-assoc}
 use native.Mathlib.Omega.{arith}
+use lib.Dec.{T}
 use lib.ListN.{length, getD, List·getD-append}
+use Rattle.facts.specs.Finite.{allBelow}
+use Rattle.facts.proofs.Finite.{below}
 use Rattle.files.specs.Fields.{u32At}
 
 -- two files with the same four bytes from a place on have the same number there
@@ -13,6 +17,15 @@ unfolding u32At
 same-field f g at e =
     let none : at + 0 ≡ at = omega arith in
     rw (rw none at (e 0 (omega arith)), e 1 (omega arith), e 2 (omega arith), e 3 (omega arith))
+
+-- so have two files that agree below a size but at some ignored places, where no byte of the number is ignored
+module _ (f g : List ℕ) (isIgnored : ℕ → Bool) (size : ℕ) (e : (i : ℕ) → i < size → isIgnored i ≡ false → getD f i 0 ≡ getD g i 0) where
+  pub field-kept : (at : ℕ) → at + 4 ≤ size → T (allBelow (λ k. not (isIgnored (at + k))) 4) → u32At f at ≡ u32At g at
+  field-kept at h t = same-field f g at (λ k l. e (at + k) (omega arith) (read (isIgnored (at + k)) (below (λ k. not (isIgnored (at + k))) 4 t k l)))
+    where
+      read : (b : Bool) → T (not b) → b ≡ false
+      read true q = absurd q
+      read false q = refl
 
 -- a number read at a place, or no places after it
 pub here : (file : List ℕ) (at : ℕ) {n : ℕ} → n ≡ u32At file (at + 0) → n ≡ u32At file at

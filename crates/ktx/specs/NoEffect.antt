@@ -1,1 +1,32 @@
 -- What of a file has no effect on how it is read. Assumes nothing: these are definitions.
+use mathlib.Core.Path.{_≡_}
+use mathlib.Core.Bool.{Bool, false, _&&_, _||_}
+use mathlib.Core.List.{List}
+use Prim.Native.Nat.{ℕ, _+_, _<_}
+use lib.Dec.{ltb, leb}
+use lib.ListN.{length, getD}
+use Rattle.ktx.specs.Header.{headerSize, sizePlace, shortHeader, cutShort}
+
+-- Of the fields, type size, base format and levels have no effect: places 20 to 23, 32 to 35 and 56 to 59.
+abbrev pub isIgnored : ℕ → Bool
+isIgnored i = leb 20 i && ltb i 24 || leb 32 i && ltb i 36 || leb 56 i && ltb i 60
+
+-- The key/value bytes stand between the header and the size word.
+abbrev pub isKeyValue : List ℕ → ℕ → Bool
+isKeyValue file i = leb headerSize i && ltb i (sizePlace file)
+
+-- Two files that differ in these alone.
+pub record SameButIgnored (f g : List ℕ) : Type 0 where
+  pub length-same : length f ≡ length g
+  pub bytes : (i : ℕ) → isIgnored i ≡ false → isKeyValue f i ≡ false → getD f i 0 ≡ getD g i 0
+
+-- Two files with the same fields but for the ignored ones: both have fewer than 64 bytes, or neither has.
+pub record SameFields (f g : List ℕ) : Type 0 where
+  pub short : shortHeader f ≡ shortHeader g
+  pub bytes : (i : ℕ) → i < headerSize → isIgnored i ≡ false → getD f i 0 ≡ getD g i 0
+
+-- Two files with the same header: the same fields, both or neither cut short, and the same size word.
+pub record SameHeader (f g : List ℕ) : Type 0 where
+  pub fields : SameFields f g
+  pub cut : cutShort f ≡ cutShort g
+  pub size : (k : ℕ) → k < 4 → getD f (sizePlace f + k) 0 ≡ getD g (sizePlace f + k) 0

@@ -1,12 +1,12 @@
-// Reads a PVR file on standard input, and writes its picture as a TGA on standard output, or the line of a refusal.
+// Reads a PVR or KTX file on standard input, and writes its picture as a TGA on standard output, or the line of a refusal.
 ghost use mathlib.Core.Path.{_≡_};
 ghost use Prim.Native.Nat.{_-_, _<_};
 ghost use lib.ListN.{length};
 ghost use Rattle.convert.specs.Output.{Room, readLimit};
 ghost use Rattle.plate.specs.Input.{meant, within, Stopped, Answers};
 
-// The header, the metadata and the data that can matter have 52 + 4,096 + 32,768 bytes; later ones are left unread.
-const READ_LIMIT: usize = 36916;
+// Of a KTX file 64 + 4,096 + 4 + 32,768 bytes can matter, of a PVR file fewer; later ones are left unread.
+const READ_LIMIT: usize = 36932;
 
 // What one read gives: so many bytes, that the input has ended, or that it failed.
 enum Read {

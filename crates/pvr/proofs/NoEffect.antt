@@ -1,16 +1,20 @@
 -- Flags, colour space, channel type and whatever follows the header have no effect on how it is read. Assumes nothing.
 use mathlib.Core.Path.{_≡_, refl, sym, ap, _∙_}
 use mathlib.Core.Bool.{Bool, true, false, not}
-use mathlib.Core.List.{List}
+use mathlib.Core.List.{List, _++_}
 use Prim.Native.Nat.{ℕ, _+_, _<_, _≤_}
 use native.Mathlib.Omega.{arith}
-use lib.Dec.{ltb}
-use lib.ListN.{length, getD}
+use lib.Dec.{T, ltb}
+use lib.ListN.{length, getD, length-append, List·getD-append}
 use borrow.Author.Tests.{ltb-false, le-ltb, lt-leb}
 use Rattle.pvr.specs.declared.Header.{Header}
+use Rattle.facts.specs.Finite.{allBelow}
 use Rattle.files.specs.Fields.{u32At}
+use Rattle.files.proofs.Answers.{SameSays}
+use Rattle.files.proofs.Fields.{field-kept}
 use Rattle.files.proofs.Starts.{same-start}
-use Rattle.pvr.specs.Header.{version, headerSize, pixelFormat, widthField, heightField, payloadOffset, shortHeader, notPvr, notOnePlate, headerRefusal, HeaderRead}
+use Rattle.pvr.specs.Header.{version, headerSize, pixelFormat, widthField, heightField, metadataSize, payloadOffset, shortHeader, notPvr, notOnePlate, headerRefusal, HeaderRead}
+use Rattle.pvr.specs.Reading.{pvrSays}
 use Rattle.pvr.specs.NoEffect.{hasNoEffect, SameHeader}
 use Rattle.facts.proofs.Order.{holds-here}
 use Rattle.pvr.proofs.Unique.{one-header}
@@ -25,32 +29,29 @@ module _ (f g : List ℕ) (e : (i : ℕ) → i < headerSize → hasNoEffect i �
 
 module _ {f g : List ℕ} (s : SameHeader f g) where
   -- a field none of whose bytes is without effect
-  field : (at : ℕ) → at + 4 ≤ headerSize → hasNoEffect at ≡ false → hasNoEffect (at + 1) ≡ false → hasNoEffect (at + 2) ≡ false → hasNoEffect (at + 3) ≡ false
-      → u32At f at ≡ u32At g at
-  unfolding u32At
-  field at h a b c d =
-      rw (s .bytes at (omega arith) a, s .bytes (at + 1) (omega arith) b, s .bytes (at + 2) (omega arith) c, s .bytes (at + 3) (omega arith) d)
+  field : (at : ℕ) → at + 4 ≤ headerSize → T (allBelow (λ k. not (hasNoEffect (at + k))) 4) → u32At f at ≡ u32At g at
+  field = field-kept f g hasNoEffect headerSize (s .bytes)
 
   pub same-format : pixelFormat f ≡ pixelFormat g
-  same-format = rw (field 8 (omega arith) refl refl refl refl, field 12 (omega arith) refl refl refl refl)
+  same-format = rw (field 8 (omega arith) tt, field 12 (omega arith) tt)
 
   pub same-width : widthField f ≡ widthField g
-  same-width = field 28 (omega arith) refl refl refl refl
+  same-width = field 28 (omega arith) tt
 
   pub same-height : heightField f ≡ heightField g
-  same-height = field 24 (omega arith) refl refl refl refl
+  same-height = field 24 (omega arith) tt
 
   pub same-payload : payloadOffset f ≡ payloadOffset g
-  same-payload = ap (λ (n : ℕ). headerSize + n) (field 48 (omega arith) refl refl refl refl)
+  same-payload = ap (λ (n : ℕ). headerSize + n) (field 48 (omega arith) tt)
 
   same-plates : notOnePlate f ≡ notOnePlate g
   unfolding notOnePlate
   same-plates =
       rw (
-        field 32 (omega arith) refl refl refl refl,
-        field 36 (omega arith) refl refl refl refl,
-        field 40 (omega arith) refl refl refl refl,
-        field 44 (omega arith) refl refl refl refl,
+        field 32 (omega arith) tt,
+        field 36 (omega arith) tt,
+        field 40 (omega arith) tt,
+        field 44 (omega arith) tt,
       )
 
   same-version : shortHeader f ≡ false → notPvr f ≡ notPvr g
@@ -66,6 +67,12 @@ module _ {f g : List ℕ} (s : SameHeader f g) where
       by true e = sym (holds-here _ 11 _ e) ∙ holds-here _ 11 _ (sym (s .short) ∙ e)
       by false e = rw (s .short, same-version e, same-format, same-plates)
 
+  -- so they say the same to the program
+  pub same-says : SameSays (pvrSays f) (pvrSays g)
+  same-says =
+      let metadata : metadataSize f ≡ metadataSize g = omega (arith, same-payload) in
+      record { number = same-number; plate = rw (same-width, same-height, same-format, metadata) refl }
+
   pub no-effect : {r : Header} → HeaderRead f r → HeaderRead g r
   no-effect p =
       record {
@@ -79,3 +86,9 @@ module _ {f g : List ℕ} (s : SameHeader f g) where
   -- so both files have one answer
   pub same-answer : {r q : Header} → HeaderRead f r → HeaderRead g q → r ≡ q
   same-answer {r} {q} a b = one-header g r q (no-effect a) b
+
+-- and whatever follows a whole header leaves what it says
+pub says-before : (file more : List ℕ) → headerSize ≤ length file → SameSays (pvrSays (file ++ more)) (pvrSays file)
+says-before file more h =
+    same-says
+    (of-whole (file ++ more) file (λ i l _. List·getD-append file more 0 i (omega arith)) (omega (arith, length-append file more)) h)

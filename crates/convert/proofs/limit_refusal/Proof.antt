@@ -62,8 +62,7 @@ has-long-side-requires c κs = search needs
 returns-4 : tie.Need-returns-4
 returns-4 c =
     let long = c .before in
-    let zero = long .before .before in
-    (
+    let zero = long .before .before in (
       past-cut (zero .before) (holds-later _ _ _ (sym (no-zero zero) ∙ long .before .if3 .left) (holds-here _ _ _ (sym (no-long long) ∙ c .if4 .taken))),
       omega arith,
     )
@@ -108,20 +107,18 @@ sized k = k .fits-size .ensures ∙ ap (fitsSize (stored (k .before .before) .si
 returns-6 : tie.Need-returns-6
 returns-6 c =
     let k = c .before in
-    let need = k .before .before in
-    (
+    let need = k .before .before in (
       past-sides need (holds-later _ _ _ (le-ltb 32768 _ (rw (asked need) at (k .before .if5 .left)))
-      (holds-here _ _ _ (ap not (sym (sized k)) ∙ c .if6 .taken))),
+          (holds-here _ _ _ (ap not (sym (sized k)) ∙ c .if6 .taken))),
       omega arith,
     )
 
 returns-7 : tie.Need-returns-7
 returns-7 c =
     let k = c .before in
-    let need = k .before .before in
-    (
+    let need = k .before .before in (
       past-sides need (holds-later _ _ _ (le-ltb 32768 _ (rw (asked need) at (k .before .if5 .left)))
-      (holds-later _ _ _ (ap not (sym (sized k)) ∙ c .if6 .left) none-left)),
+          (holds-later _ _ _ (ap not (sym (sized k)) ∙ c .if6 .left) none-left)),
       omega arith,
     )
 
