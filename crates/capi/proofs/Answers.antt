@@ -2,17 +2,17 @@
 use mathlib.Core.Path.{_≡_, refl, sym, ap, _∙_}
 use mathlib.Core.Bool.{Bool, cond}
 use mathlib.Core.List.{List}
-use Prim.Native.Nat.{ℕ, zero, suc, _*_, _/_, _%_, _<_}
+use Prim.Native.Nat.{ℕ, _*_, _/_, _%_, _<_}
 use native.Mathlib.Omega.{arith}
 use lib.Dec.{eqb}
 use lib.ListN.{drop}
-use borrow.Author.Tests.{ne-eqb}
+use borrow.Author.Tests.{eqb-true, ne-eqb}
 use Rattle.facts.proofs.Lists.{choice}
 use Rattle.grid.specs.Grid.{blockAddress}
 use Rattle.texel.proofs.Range.{texel-below}
 use Rattle.pvr.proofs.Answers.{PlateRead, of-plate, number-above}
 use Rattle.pvr.specs.Header as header
-use Rattle.pvr.specs.Header.{bitsOf, headerRefusal, headerNumber, HeaderRead}
+use Rattle.pvr.specs.Header.{bitsOf, headerNumber, HeaderRead}
 use Rattle.pvr.specs.declared.Header.{Header}
 use Rattle.pvr.specs.declared.Header.the-variants.{Plate, Refused}
 use Rattle.pvr.specs.declared.HeaderRefusal.{HeaderRefusal}
@@ -25,7 +25,7 @@ use Rattle.pvrtc.specs.declared.Picture.{Picture}
 use Rattle.pvrtc.specs.declared.Refusal.{Refusal}
 use Rattle.pvrtc.specs.declared.Texel.{Texel}
 use Rattle.pvrtc.specs.declared.Texel.the-variants as texel
-use Rattle.capi.specs.Plate.{texelAnswer, Wrote, plateField, headerField}
+use Rattle.capi.specs.Plate.{texelAnswer, Wrote, plateField, fieldOf, headerField}
 
 module _ (p : Picture) (d : List ℕ) (x y : ℕ) {r : Texel} (t : TexelRead p d x y r) where
   pub of-word : {v : ℕ} → r ≡ texel.Word v → v ≡ texelAnswer p d x y
@@ -73,24 +73,22 @@ module _ (width height bits payload : ℕ) {field : ℕ} where
   pub no-other : (field ≡ 1 → ⊥) → (field ≡ 2 → ⊥) → (field ≡ 3 → ⊥) → (field ≡ 4 → ⊥) → 0 ≡ plateField width height bits payload field
   no-other a b c d = rw (ne-eqb field 1 a) (rw (ne-eqb field 2 b) (rw (ne-eqb field 3 c) (rw (ne-eqb field 4 d) refl)))
 
--- no field of an accepted header has number 0
-none-at-0 : (width height bits payload field : ℕ)
-    → plateField width height bits payload field ≡ cond (eqb field 0) 0 (plateField width height bits payload field)
-none-at-0 width height bits payload zero = refl
-none-at-0 width height bits payload (suc k) = rw (ne-eqb (suc k) 0 (λ none. omega arith)) refl
+-- how a header's answer becomes a field, whatever kind of file has it
+module _ {refusal v : ℕ} (value field : ℕ) where
+  pub of-refused : {n : ℕ} → n ≡ refusal → 0 < n → v ≡ cond (eqb field 0) n 0 → v ≡ fieldOf refusal value field
+  of-refused {n} e above q = rw (← e) (rw (ne-eqb n 0 (λ none. omega arith)) q)
 
--- how a header's answer becomes a field
+  -- none of an accepted header's own fields has number 0
+  pub of-accepted : refusal ≡ 0 → (field ≡ 0 → value ≡ 0) → v ≡ value → v ≡ fieldOf refusal value field
+  of-accepted e none-at-0 q = rw e (q ∙ choice (λ (w : ℕ). value ≡ w) (eqb field 0) (λ z. none-at-0 (eqb-true field 0 z)) (λ _. refl))
+
+-- of a PVR file
 module _ (file : List ℕ) (field : ℕ) {r : Header} (p : HeaderRead file r) where
-  pub field-of-refused : {f : HeaderRefusal} {n : ℕ} → r ≡ Refused f → field ≡ 0 → n ≡ header.numberOf f → n ≡ headerField file field
-  field-of-refused e z q = rw z (q ∙ sym (ap headerNumber e) ∙ p .number)
+  pub field-of-refused : {f : HeaderRefusal} {n v : ℕ} → r ≡ Refused f → n ≡ header.numberOf f → v ≡ cond (eqb field 0) n 0 → v ≡ headerField file field
+  field-of-refused {f} e q = of-refused _ field (q ∙ sym (ap headerNumber e) ∙ p .number) (omega (arith, number-above f))
 
-  pub no-field-of-refused : {f : HeaderRefusal} → r ≡ Refused f → (field ≡ 0 → ⊥) → 0 ≡ headerField file field
-  no-field-of-refused {f} e z =
-      let refused : headerRefusal file ≡ 0 → ⊥ = λ none. omega (arith, number-above f, ap headerNumber e, p .number) in
-      rw (ne-eqb field 0 z) (rw (ne-eqb (headerRefusal file) 0 refused) refl)
-
-  pub field-of-plate : (w h at : ℕ) (two : Bool) {n : ℕ} → r ≡ Plate w h two at → n ≡ plateField w h (bitsOf two) at field → n ≡ headerField file field
+  pub field-of-plate : (w h at : ℕ) (two : Bool) {v : ℕ} → r ≡ Plate w h two at → v ≡ plateField w h (bitsOf two) at field → v ≡ headerField file field
   field-of-plate w h at two e q =
       let read : PlateRead file w h two at = of-plate (rw e at p) in
-      rw (read .accepted) (rw (sym (read .width))
-      (rw (sym (read .height)) (rw (sym (read .depth)) (rw (sym (read .payload)) (q ∙ none-at-0 w h (bitsOf two) at field)))))
+      let same = rw (read .width, read .height, read .depth, read .payload) at q in
+      of-accepted _ field (read .accepted) (λ z. rw z refl) same

@@ -1,1 +1,2 @@
+pub mod Ktx
 pub mod Plate

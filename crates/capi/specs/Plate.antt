@@ -7,7 +7,7 @@ use lib.Dec.{eqb}
 use lib.ListN.{length}
 use Rattle.paint.specs.Paint.{painted}
 use Rattle.paint.specs.Sheet.{onSheet}
-use Rattle.pvr.specs.Header.{headerRefusal, unlessRefused, widthField, heightField, bitsOf, isTwo, payloadOffset}
+use Rattle.pvr.specs.Header.{headerRefusal, widthField, heightField, bitsOf, isTwo, payloadOffset}
 use Rattle.pvrtc.specs.Calls.{refusal}
 use Rattle.pvrtc.specs.Picture.{picture, sheetOf, pictureTexel}
 use Rattle.pvrtc.specs.declared.Call.the-variants as call
@@ -43,8 +43,15 @@ abbrev pub plateField : (width height bits payload : ℕ) → ℕ → ℕ
 plateField width height bits payload field =
     cond (eqb field 1) width (cond (eqb field 2) height (cond (eqb field 3) bits (cond (eqb field 4) payload 0)))
 
--- A field of a file's header: 0 is the refusal's number; of a refused header every other field is 0.
+-- The same where a size is said: field 5.
+abbrev pub sizedField : (width height bits payload size : ℕ) → ℕ → ℕ
+sizedField width height bits payload size field = cond (eqb field 5) size (plateField width height bits payload field)
+
+-- A field of a header, refused or not: 0 is the refusal's number; of a refused header every other field is 0.
+abbrev pub fieldOf : (refusal value field : ℕ) → ℕ
+fieldOf refusal value field = cond (eqb field 0) refusal (cond (eqb refusal 0) value 0)
+
+-- A field of a PVR file's header.
 abbrev pub headerField : List ℕ → ℕ → ℕ
 headerField file field =
-    cond (eqb field 0) (headerRefusal file)
-    (unlessRefused file (plateField (widthField file) (heightField file) (bitsOf (isTwo file)) (payloadOffset file) field))
+    fieldOf (headerRefusal file) (plateField (widthField file) (heightField file) (bitsOf (isTwo file)) (payloadOffset file) field) field

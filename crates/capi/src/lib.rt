@@ -1,8 +1,11 @@
 // What C calls: include/plate.h declares these functions. A slice is a pointer and a length in C.
 ghost use mathlib.Core.Path.{_≡_};
+ghost use mathlib.Core.Bool.{cond};
+ghost use lib.Dec.{eqb};
 ghost use Rattle.pvr.specs.Header.{bitsOf};
 ghost use Rattle.pvrtc.specs.Refusals.{decodedNumber};
-ghost use Rattle.capi.specs.Plate.{plate, texelAnswer, WroteRow, WrotePicture, headerField, plateField};
+ghost use Rattle.capi.specs.Plate.{plate, texelAnswer, WroteRow, WrotePicture, headerField, plateField, sizedField};
+ghost use Rattle.capi.specs.Ktx.{ktxField, WroteKtx};
 use pvr::Header;
 use pvrtc::Decoded;
 use pvrtc::Picture;
@@ -79,20 +82,14 @@ pub extern "C" fn plate_picture(
     number_of(pvrtc::decode_picture(data, picture_of(width, height, depth), image))
 }
 
-// A field of a file's header.
+// A field of a PVR file's header.
 #[no_mangle]
 pub extern "C" fn plate_header(file: &[u8], field: u32) -> u64
     ensures { λ r. ⌜ r ≡ headerField (now (file .entry)) field ⌝ }
 {
     let header = pvr::read_header(file);
     match header {
-        Header::Refused(f) => {
-            if field == 0 {
-                pvr::header_refusal_number(f)
-            } else {
-                0
-            }
-        }
+        Header::Refused(f) => refused_field(pvr::header_refusal_number(f), field),
         Header::Plate {
             width,
             height,
@@ -100,6 +97,39 @@ pub extern "C" fn plate_header(file: &[u8], field: u32) -> u64
             payload,
         } => plate_field(width, height, is2bpp, payload, field),
     }
+}
+
+// A field of a KTX file's header.
+#[no_mangle]
+pub extern "C" fn plate_ktx(file: &[u8], field: u32) -> u64
+    ensures { λ r. ⌜ r ≡ ktxField (now (file .entry)) field ⌝ }
+{
+    let header = ktx::read_header(file);
+    match header {
+        ktx::Header::Refused(f) => refused_field(ktx::header_refusal_number(f), field),
+        ktx::Header::Plate {
+            width,
+            height,
+            is2bpp,
+            payload,
+            size,
+        } => sized_field(width, height, is2bpp, payload, size, field),
+    }
+}
+
+// The picture of a KTX file into lent words.
+#[no_mangle]
+pub extern "C" fn plate_ktx_picture(file: &[u8], image: &mut [u32]) -> u64
+    ensures { λ r. ⌜ WroteKtx (now (file .entry)) (now (image .entry)) (now (image .exit)) r ⌝ }
+{
+    ktx::decoded_number(ktx::decode_ktx(file, image))
+}
+
+// A field of a refused header.
+fn refused_field(number: u64, field: u32) -> u64
+    ensures { λ r. ⌜ r ≡ cond (eqb field 0) number 0 ⌝ }
+{
+    if field == 0 { number } else { 0 }
 }
 
 // A field of an accepted header.
@@ -112,5 +142,23 @@ fn plate_field(width: usize, height: usize, is2bpp: bool, payload: usize, field:
         3 => if is2bpp { 2 } else { 4 },
         4 => payload as u64,
         _ => 0,
+    }
+}
+
+// The same, where the header says a size too.
+fn sized_field(
+    width: usize,
+    height: usize,
+    is2bpp: bool,
+    payload: usize,
+    size: u32,
+    field: u32,
+) -> u64
+    ensures { λ r. ⌜ r ≡ sizedField width height (bitsOf is2bpp) payload size field ⌝ }
+{
+    if field == 5 {
+        size as u64
+    } else {
+        plate_field(width, height, is2bpp, payload, field)
     }
 }

@@ -1,6 +1,7 @@
+-- `capi::plate_header` meets its contract. Assumes nothing.
 use denote.Ref.{now}
 use borrow.Author.Needs.{needs}
-use Rattle.capi.proofs.Answers.{field-of-refused, no-field-of-refused, field-of-plate}
+use Rattle.capi.proofs.Answers.{field-of-refused, field-of-plate}
 use Rattle.capi.proofs.plate_header.Statement.{statement}
 use Rattle.capi.proofs.plate_header.Tie as tie
 
@@ -13,6 +14,9 @@ enum-known-header c = search needs
 header-refusal-number-requires : tie.Need-header-refusal-number-requires
 header-refusal-number-requires c κs = search needs
 
+refused-field-requires : tie.Need-refused-field-requires
+refused-field-requires c κs = search needs
+
 enum-known-header-2 : tie.Need-enum-known-header-2
 enum-known-header-2 c = search needs
 
@@ -23,16 +27,10 @@ returns : tie.Need-returns
 returns c =
     let a = c .before .before .before .before .before .before .before .args in
     field-of-refused (now (a .file)) (a .field) (c .before .before .before .before .before .read-header .ensures)
-    (c .before .before .before .header .given .1) (c .before .if1 .taken) (c .header-refusal-number .ensures)
+    (c .before .before .before .header .given .1) (c .before .header-refusal-number .ensures) (c .refused-field .ensures)
 
 returns-2 : tie.Need-returns-2
 returns-2 c =
-    let a = c .before .before .before .before .before .before .args in
-    no-field-of-refused (now (a .file)) (a .field) (c .before .before .before .before .read-header .ensures) (c .before .before .header .given .1)
-    (c .if1 .left)
-
-returns-3 : tie.Need-returns-3
-returns-3 c =
     let a = c .before .before .before .before .before .before .args in
     let v = c .before .before .header2 .given .0 in
     field-of-plate (now (a .file)) (a .field) (c .before .before .before .before .read-header .ensures) (v .0) (v .1 .0) (v .1 .1 .1 .0) (v .1 .1 .0)
@@ -45,8 +43,8 @@ plate-header-spec =
     read-header-requires
     enum-known-header
     header-refusal-number-requires
+    refused-field-requires
     enum-known-header-2
     plate-field-requires
     returns
-    returns-2
-    returns-3)
+    returns-2)

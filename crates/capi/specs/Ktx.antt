@@ -1,0 +1,20 @@
+-- What C is told of a KTX file. Assumes nothing: these are definitions.
+use mathlib.Core.List.{List}
+use Prim.Native.Nat.{ℕ}
+use lib.ListN.{length}
+use Rattle.ktx.specs.Header.{headerRefusal, widthField, heightField, bitsOf, isTwo, payloadOffset, sizeWord}
+use Rattle.ktx.specs.Picture.{plateOf, levelData, pictureRefusal}
+use Rattle.paint.specs.Sheet.{onSheet}
+use Rattle.pvrtc.specs.Picture.{sheetOf, pictureTexel}
+use Rattle.capi.specs.Plate.{Wrote, sizedField, fieldOf}
+
+-- A field of its header: the size is the size word.
+abbrev pub ktxField : List ℕ → ℕ → ℕ
+ktxField file field =
+    fieldOf (headerRefusal file)
+    (sizedField (widthField file) (heightField file) (bitsOf (isTwo file)) (payloadOffset file) (sizeWord file) field) field
+
+-- Its picture: texel (x, y) at word y × width + x.
+abbrev pub WroteKtx : (file old new : List ℕ) → ℕ → Type 0
+WroteKtx file old new r =
+    Wrote (pictureRefusal file (length old)) (onSheet (sheetOf (plateOf file)) (pictureTexel (plateOf file) (levelData file)) old) old new r
