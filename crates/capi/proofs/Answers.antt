@@ -12,7 +12,8 @@ use Rattle.grid.specs.Grid.{blockAddress}
 use Rattle.texel.proofs.Range.{texel-below}
 use Rattle.pvr.proofs.Answers.{PlateRead, of-plate, number-above}
 use Rattle.pvr.specs.Header as header
-use Rattle.pvr.specs.Header.{bitsOf, headerNumber, HeaderRead}
+use Rattle.files.specs.Fields.{bitsOf}
+use Rattle.pvr.specs.Header.{headerNumber, HeaderRead}
 use Rattle.pvr.specs.declared.Header.{Header}
 use Rattle.pvr.specs.declared.Header.the-variants.{Plate, Refused}
 use Rattle.pvr.specs.declared.HeaderRefusal.{HeaderRefusal}

@@ -6,7 +6,8 @@ use Prim.Native.Nat.{ℕ}
 use native.Mathlib.Omega.{arith}
 use lib.Dec.{eqb}
 use Rattle.ktx.proofs.Answers.{PlateRead, of-plate, number-above}
-use Rattle.ktx.specs.Header.{bitsOf, numberOf, headerNumber, HeaderRead}
+use Rattle.files.specs.Fields.{bitsOf}
+use Rattle.ktx.specs.Header.{numberOf, headerNumber, HeaderRead}
 use Rattle.ktx.specs.declared.Header.{Header}
 use Rattle.ktx.specs.declared.Header.the-variants.{Plate, Refused}
 use Rattle.ktx.specs.declared.HeaderRefusal.{HeaderRefusal}

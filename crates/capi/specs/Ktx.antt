@@ -2,7 +2,8 @@
 use mathlib.Core.List.{List}
 use Prim.Native.Nat.{ℕ}
 use lib.ListN.{length}
-use Rattle.ktx.specs.Header.{headerRefusal, widthField, heightField, bitsOf, isTwo, payloadOffset, sizeWord}
+use Rattle.files.specs.Fields.{bitsOf}
+use Rattle.ktx.specs.Header.{headerRefusal, widthField, heightField, isTwo, payloadOffset, sizeWord}
 use Rattle.ktx.specs.Picture.{plateOf, levelData, pictureRefusal}
 use Rattle.paint.specs.Sheet.{onSheet}
 use Rattle.pvrtc.specs.Picture.{sheetOf, pictureTexel}

@@ -7,7 +7,8 @@ use lib.Dec.{eqb}
 use lib.ListN.{length}
 use Rattle.paint.specs.Paint.{painted}
 use Rattle.paint.specs.Sheet.{onSheet}
-use Rattle.pvr.specs.Header.{headerRefusal, widthField, heightField, bitsOf, isTwo, payloadOffset}
+use Rattle.files.specs.Fields.{bitsOf}
+use Rattle.pvr.specs.Header.{headerRefusal, widthField, heightField, isTwo, payloadOffset}
 use Rattle.pvrtc.specs.Calls.{refusal}
 use Rattle.pvrtc.specs.Picture.{picture, sheetOf, pictureTexel}
 use Rattle.pvrtc.specs.declared.Call.the-variants as call

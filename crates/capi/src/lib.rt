@@ -2,7 +2,7 @@
 ghost use mathlib.Core.Path.{_≡_};
 ghost use mathlib.Core.Bool.{cond};
 ghost use lib.Dec.{eqb};
-ghost use Rattle.pvr.specs.Header.{bitsOf};
+ghost use Rattle.files.specs.Fields.{bitsOf};
 ghost use Rattle.pvrtc.specs.Refusals.{decodedNumber};
 ghost use Rattle.capi.specs.Plate.{plate, texelAnswer, WroteRow, WrotePicture, headerField, plateField, sizedField};
 ghost use Rattle.capi.specs.Ktx.{ktxField, WroteKtx};

@@ -9,7 +9,7 @@ use lib.Dec.{T}
 use lib.ListN.{length, getD, List·getD-append}
 use Rattle.facts.specs.Finite.{allBelow}
 use Rattle.facts.proofs.Finite.{below}
-use Rattle.files.specs.Fields.{u32At}
+use Rattle.files.specs.Fields.{u32At, bitsOf}
 
 -- two files with the same four bytes from a place on have the same number there
 pub same-field : (f g : List ℕ) (at : ℕ) → ((k : ℕ) → k < 4 → getD f (at + k) 0 ≡ getD g (at + k) 0) → u32At f at ≡ u32At g at
@@ -41,3 +41,10 @@ from-parts file at k = rw (add-assoc at k 1, add-assoc at k 2, add-assoc at k 3)
 -- later bytes leave a number as it is
 pub field-before : (file more : List ℕ) (at : ℕ) → at + 4 ≤ length file → u32At (file ++ more) at ≡ u32At file at
 field-before file more at h = same-field (file ++ more) file at (λ k l. List·getD-append file more 0 (at + k) (omega arith))
+
+-- the bits of a texel tell the depth
+pub same-depth : (a b : Bool) → bitsOf a ≡ bitsOf b → a ≡ b
+same-depth true true e = refl
+same-depth true false e = absurd (omega arith)
+same-depth false true e = absurd (omega arith)
+same-depth false false e = refl

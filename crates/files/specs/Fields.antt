@@ -1,6 +1,6 @@
--- A file's little-endian numbers and its first bytes. Assumes nothing: these are definitions.
+-- A file's little-endian numbers and its first bytes, and how a depth is said. Assumes nothing: these are definitions.
 -- `file` is the list of the file's bytes; a byte past its end counts as 0.
-use mathlib.Core.Bool.{Bool, true, false, _&&_}
+use mathlib.Core.Bool.{Bool, true, false, _&&_, cond}
 use mathlib.Core.List.{List, [], _∷_}
 use Prim.Native.Nat.{ℕ, _+_, _*_}
 use lib.Dec.{eqb}
@@ -20,3 +20,7 @@ unfoldable pub startsWith : List ℕ → List ℕ → Bool
 startsWith file [] = true
 startsWith [] (b ∷ l) = false
 startsWith (a ∷ file) (b ∷ l) = eqb a b && startsWith file l
+
+-- The bits of a texel, at 2bpp if `two`.
+abbrev pub bitsOf : (two : Bool) → ℕ
+bitsOf two = cond two 2 4

@@ -10,17 +10,19 @@ use borrow.Author.Tests.{ne-eqb}
 use Rattle.facts.specs.Checks.{Given, firstOf}
 use Rattle.facts.proofs.Checks.{exactly-when, said-first, said-later}
 use Rattle.facts.proofs.Order.{holds-here, holds-later, none-left}
+use Rattle.files.specs.Fields.{bitsOf}
 use Rattle.files.specs.Reading.{readingOf}
 use Rattle.files.specs.declared.Reading.the-variants as reading
 use Rattle.files.specs.declared.Stored.{Stored}
 use Rattle.files.proofs.Answers as answers
+use Rattle.files.proofs.Fields.{same-depth}
 use Rattle.ktx.specs.declared.Header.{Header}
 use Rattle.ktx.specs.declared.Header.the-variants.{Plate, Refused}
 use Rattle.ktx.specs.declared.HeaderRefusal.{HeaderRefusal}
 use Rattle.ktx.specs.declared.HeaderRefusal.the-variants.{ShortHeader, NotKtx, OtherByteOrder, UnknownFormat, NotOnePlate, CutShort}
 use Rattle.ktx.specs.declared.reader.Fields.{Fields}
 use Rattle.ktx.specs.declared.reader.Fields.the-variants as fields
-use Rattle.ktx.specs.Header.{widthField, heightField, isTwo, bitsOf, payloadOffset, sizeWord, cutShort, fieldChecks, headerChecks, headerRefusal, numberOf, headerNumber, HeaderRead}
+use Rattle.ktx.specs.Header.{widthField, heightField, isTwo, payloadOffset, sizeWord, cutShort, fieldChecks, headerChecks, headerRefusal, numberOf, headerNumber, HeaderRead}
 use Rattle.ktx.specs.Inner.{fieldsNumber, FieldsSay}
 use Rattle.ktx.specs.Reading.{ktxPlate, ktxSays}
 
@@ -32,13 +34,6 @@ number-above OtherByteOrder = omega arith
 number-above UnknownFormat = omega arith
 number-above NotOnePlate = omega arith
 number-above CutShort = omega arith
-
--- the bits of a texel tell the depth
-pub same-depth : (a b : Bool) → bitsOf a ≡ bitsOf b → a ≡ b
-same-depth true true e = refl
-same-depth true false e = absurd (omega arith)
-same-depth false true e = absurd (omega arith)
-same-depth false false e = refl
 
 -- what an answered plate says: no refusal's condition holds, and its values are the header's
 pub record PlateRead (file : List ℕ) (w h : ℕ) (two : Bool) (at size : ℕ) : Type 0 where

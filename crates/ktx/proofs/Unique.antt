@@ -6,6 +6,7 @@ use Prim.Native.Nat.{ℕ, _≤_, _<_}
 use native.Mathlib.Omega.{arith}
 use lib.Dec.{eqb}
 use Rattle.pvrtc.proofs.Unique as call
+use Rattle.files.proofs.Fields.{same-depth}
 use Rattle.ktx.specs.declared.Decoded.{Decoded}
 use Rattle.ktx.specs.declared.Decoded.the-variants as decoded
 use Rattle.ktx.specs.declared.Header.{Header}
@@ -14,7 +15,7 @@ use Rattle.ktx.specs.declared.HeaderRefusal.{HeaderRefusal}
 use Rattle.ktx.specs.declared.HeaderRefusal.the-variants.{ShortHeader, NotKtx, OtherByteOrder, UnknownFormat, NotOnePlate, CutShort}
 use Rattle.ktx.specs.Header.{numberOf, headerNumber, headerWidth, headerHeight, headerBits, headerPayload, headerSizeWord, HeaderRead}
 use Rattle.ktx.specs.Picture.{decodedNumber, KtxDecoded}
-use Rattle.ktx.proofs.Answers.{number-above, same-depth}
+use Rattle.ktx.proofs.Answers.{number-above}
 
 -- a refusal's number tells which it is
 ofNumber : ℕ → HeaderRefusal

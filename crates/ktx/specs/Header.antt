@@ -7,7 +7,7 @@ use Prim.Native.Nat.{ℕ, _+_}
 use lib.Dec.{eqb, ltb}
 use lib.ListN.{length}
 use Rattle.facts.specs.Checks.{Check, check, firstOf}
-use Rattle.files.specs.Fields.{u32At, startsWith}
+use Rattle.files.specs.Fields.{u32At, startsWith, bitsOf}
 use Rattle.ktx.specs.declared.Header.{Header}
 use Rattle.ktx.specs.declared.Header.the-variants.{Plate, Refused}
 use Rattle.ktx.specs.declared.HeaderRefusal.{HeaderRefusal}
@@ -91,10 +91,6 @@ isPvrtc format = hasFourBits format || hasTwoBits format
 -- Whether a file's plate is 2bpp.
 abbrev pub isTwo : List ℕ → Bool
 isTwo file = hasTwoBits (internalFormat file)
-
--- The bits of a texel, at 2bpp if `two`.
-abbrev pub bitsOf : (two : Bool) → ℕ
-bitsOf two = cond two 2 4
 
 -- Under 64 bytes.
 abbrev pub shortHeader : List ℕ → Bool

@@ -1,6 +1,6 @@
 -- How the promise of reading a header is met, and what it gives. Assumes nothing.
 use mathlib.Core.Path.{_≡_, refl, sym, ap}
-use mathlib.Core.Bool.{Bool, true, false}
+use mathlib.Core.Bool.{Bool, false}
 use mathlib.Core.List.{List}
 use mathlib.Core.Logic.{_↔_}
 use Prim.Native.Nat.{ℕ, _<_}
@@ -9,11 +9,13 @@ use lib.Dec.{eqb}
 use borrow.Author.Tests.{ne-eqb}
 use Rattle.facts.specs.Checks.{Given}
 use Rattle.facts.proofs.Checks.{exactly-when}
+use Rattle.files.specs.Fields.{bitsOf}
+use Rattle.files.proofs.Fields.{same-depth}
 use Rattle.pvr.specs.declared.Header.{Header}
 use Rattle.pvr.specs.declared.Header.the-variants.{Plate, Refused}
 use Rattle.pvr.specs.declared.HeaderRefusal.{HeaderRefusal}
 use Rattle.pvr.specs.declared.HeaderRefusal.the-variants.{ShortHeader, NotPvr, UnknownFormat, NotOnePlate}
-use Rattle.pvr.specs.Header.{widthField, heightField, isTwo, bitsOf, payloadOffset, headerChecks, headerRefusal, numberOf, headerNumber, HeaderRead}
+use Rattle.pvr.specs.Header.{widthField, heightField, isTwo, payloadOffset, headerChecks, headerRefusal, numberOf, headerNumber, HeaderRead}
 
 -- a refusal's number is not 0
 pub number-above : (f : HeaderRefusal) → 0 < numberOf f
@@ -21,13 +23,6 @@ number-above ShortHeader = omega arith
 number-above NotPvr = omega arith
 number-above UnknownFormat = omega arith
 number-above NotOnePlate = omega arith
-
--- the bits of a texel tell the depth
-pub same-depth : (a b : Bool) → bitsOf a ≡ bitsOf b → a ≡ b
-same-depth true true e = refl
-same-depth true false e = absurd (omega arith)
-same-depth false true e = absurd (omega arith)
-same-depth false false e = refl
 
 -- what an answered plate says: no refusal's condition holds, and its values are the header's
 pub record PlateRead (file : List ℕ) (w h : ℕ) (two : Bool) (at : ℕ) : Type 0 where

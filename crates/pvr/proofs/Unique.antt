@@ -5,12 +5,13 @@ use mathlib.Core.List.{List}
 use Prim.Native.Nat.{ℕ}
 use native.Mathlib.Omega.{arith}
 use lib.Dec.{eqb}
+use Rattle.files.proofs.Fields.{same-depth}
 use Rattle.pvr.specs.declared.Header.{Header}
 use Rattle.pvr.specs.declared.Header.the-variants.{Plate, Refused}
 use Rattle.pvr.specs.declared.HeaderRefusal.{HeaderRefusal}
 use Rattle.pvr.specs.declared.HeaderRefusal.the-variants.{ShortHeader, NotPvr, UnknownFormat, NotOnePlate}
 use Rattle.pvr.specs.Header.{numberOf, headerNumber, headerWidth, headerHeight, headerBits, headerPayload, HeaderRead}
-use Rattle.pvr.proofs.Answers.{number-above, same-depth}
+use Rattle.pvr.proofs.Answers.{number-above}
 
 -- a refusal's number tells which it is
 ofNumber : ℕ → HeaderRefusal

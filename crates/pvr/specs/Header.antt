@@ -7,7 +7,7 @@ use Prim.Native.Nat.{ℕ, _+_}
 use lib.Dec.{eqb, ltb}
 use lib.ListN.{length}
 use Rattle.facts.specs.Checks.{Check, check, firstOf}
-use Rattle.files.specs.Fields.{u32At, u64At, startsWith}
+use Rattle.files.specs.Fields.{u32At, u64At, startsWith, bitsOf}
 use Rattle.pvr.specs.declared.Header.{Header}
 use Rattle.pvr.specs.declared.Header.the-variants.{Plate, Refused}
 use Rattle.pvr.specs.declared.HeaderRefusal.{HeaderRefusal}
@@ -56,10 +56,6 @@ metadataSize file = u32At file 48
 -- Formats 0 and 1 are 2bpp; 2 and 3 are 4bpp.
 abbrev pub isTwo : List ℕ → Bool
 isTwo file = ltb (pixelFormat file) 2
-
--- The bits of a texel, at 2bpp if `two`.
-abbrev pub bitsOf : (two : Bool) → ℕ
-bitsOf two = cond two 2 4
 
 -- Level 0 follows the metadata, which follows the header.
 abbrev pub payloadOffset : List ℕ → ℕ

@@ -1,6 +1,6 @@
 use mathlib.Core.Path.{refl}
 use Rattle.capi.proofs.Answers.{width-1, height-2, bits-3, payload-4, no-other}
-use Rattle.pvr.specs.Header.{bitsOf}
+use Rattle.files.specs.Fields.{bitsOf}
 use Rattle.capi.proofs.plate_field.Statement.{statement}
 use Rattle.capi.proofs.plate_field.Tie as tie
 
