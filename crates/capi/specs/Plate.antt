@@ -7,7 +7,7 @@ use lib.Dec.{eqb}
 use lib.ListN.{length}
 use Rattle.paint.specs.Paint.{painted}
 use Rattle.paint.specs.Sheet.{onSheet}
-use Rattle.files.specs.Fields.{bitsOf}
+use Rattle.files.specs.Fields.{bitsOf, unlessRefused}
 use Rattle.pvr.specs.Header.{headerRefusal, widthField, heightField, isTwo, payloadOffset}
 use Rattle.pvrtc.specs.Calls.{refusal}
 use Rattle.pvrtc.specs.Picture.{picture, sheetOf, pictureTexel}
@@ -50,7 +50,7 @@ sizedField width height bits payload size field = cond (eqb field 5) size (plate
 
 -- A field of a header, refused or not: 0 is the refusal's number; of a refused header every other field is 0.
 abbrev pub fieldOf : (refusal value field : ℕ) → ℕ
-fieldOf refusal value field = cond (eqb field 0) refusal (cond (eqb refusal 0) value 0)
+fieldOf refusal value field = cond (eqb field 0) refusal (unlessRefused refusal value)
 
 -- A field of a PVR file's header.
 abbrev pub headerField : List ℕ → ℕ → ℕ

@@ -1,4 +1,4 @@
--- A file's little-endian numbers and its first bytes, and how a depth is said. Assumes nothing: these are definitions.
+-- A file's little-endian numbers and its first bytes, and how a header's values are said. Assumes nothing: these are definitions.
 -- `file` is the list of the file's bytes; a byte past its end counts as 0.
 use mathlib.Core.Bool.{Bool, true, false, _&&_, cond}
 use mathlib.Core.List.{List, [], _∷_}
@@ -24,3 +24,7 @@ startsWith (a ∷ file) (b ∷ l) = eqb a b && startsWith file l
 -- The bits of a texel, at 2bpp if `two`.
 abbrev pub bitsOf : (two : Bool) → ℕ
 bitsOf two = cond two 2 4
+
+-- A value where no refusal's number is said, and 0 where one is.
+abbrev pub unlessRefused : (refusal value : ℕ) → ℕ
+unlessRefused refusal value = cond (eqb refusal 0) value 0

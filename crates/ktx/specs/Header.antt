@@ -7,7 +7,7 @@ use Prim.Native.Nat.{ℕ, _+_}
 use lib.Dec.{eqb, ltb}
 use lib.ListN.{length}
 use Rattle.facts.specs.Checks.{Check, check, firstOf}
-use Rattle.files.specs.Fields.{u32At, startsWith, bitsOf}
+use Rattle.files.specs.Fields.{u32At, startsWith, bitsOf, unlessRefused}
 use Rattle.ktx.specs.declared.Header.{Header}
 use Rattle.ktx.specs.declared.Header.the-variants.{Plate, Refused}
 use Rattle.ktx.specs.declared.HeaderRefusal.{HeaderRefusal}
@@ -174,15 +174,11 @@ abbrev pub headerSizeWord : Header → ℕ
 headerSizeWord (Plate width height two payload size) = size
 headerSizeWord (Refused f) = 0
 
--- A value where the header is accepted, and 0 where it is refused.
-abbrev pub unlessRefused : List ℕ → ℕ → ℕ
-unlessRefused file value = cond (eqb (headerRefusal file) 0) value 0
-
 -- Reading a header: its number, and where that is 0 the sizes, the bits a texel, the payload offset and the size word.
 pub record HeaderRead (file : List ℕ) (r : Header) : Type 0 where
   pub number : headerNumber r ≡ headerRefusal file
-  pub width : headerWidth r ≡ unlessRefused file (widthField file)
-  pub height : headerHeight r ≡ unlessRefused file (heightField file)
-  pub bits : headerBits r ≡ unlessRefused file (bitsOf (isTwo file))
-  pub payload : headerPayload r ≡ unlessRefused file (payloadOffset file)
-  pub size : headerSizeWord r ≡ unlessRefused file (sizeWord file)
+  pub width : headerWidth r ≡ unlessRefused (headerRefusal file) (widthField file)
+  pub height : headerHeight r ≡ unlessRefused (headerRefusal file) (heightField file)
+  pub bits : headerBits r ≡ unlessRefused (headerRefusal file) (bitsOf (isTwo file))
+  pub payload : headerPayload r ≡ unlessRefused (headerRefusal file) (payloadOffset file)
+  pub size : headerSizeWord r ≡ unlessRefused (headerRefusal file) (sizeWord file)

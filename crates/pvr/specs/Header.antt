@@ -7,7 +7,7 @@ use Prim.Native.Nat.{ℕ, _+_}
 use lib.Dec.{eqb, ltb}
 use lib.ListN.{length}
 use Rattle.facts.specs.Checks.{Check, check, firstOf}
-use Rattle.files.specs.Fields.{u32At, u64At, startsWith, bitsOf}
+use Rattle.files.specs.Fields.{u32At, u64At, startsWith, bitsOf, unlessRefused}
 use Rattle.pvr.specs.declared.Header.{Header}
 use Rattle.pvr.specs.declared.Header.the-variants.{Plate, Refused}
 use Rattle.pvr.specs.declared.HeaderRefusal.{HeaderRefusal}
@@ -123,14 +123,10 @@ abbrev pub headerPayload : Header → ℕ
 headerPayload (Plate width height two payload) = payload
 headerPayload (Refused f) = 0
 
--- A value where the header is accepted, and 0 where it is refused.
-abbrev pub unlessRefused : List ℕ → ℕ → ℕ
-unlessRefused file value = cond (eqb (headerRefusal file) 0) value 0
-
 -- Reading a header: its number, and where that is 0 the sizes, the bits a texel and the payload offset.
 pub record HeaderRead (file : List ℕ) (r : Header) : Type 0 where
   pub number : headerNumber r ≡ headerRefusal file
-  pub width : headerWidth r ≡ unlessRefused file (widthField file)
-  pub height : headerHeight r ≡ unlessRefused file (heightField file)
-  pub bits : headerBits r ≡ unlessRefused file (bitsOf (isTwo file))
-  pub payload : headerPayload r ≡ unlessRefused file (payloadOffset file)
+  pub width : headerWidth r ≡ unlessRefused (headerRefusal file) (widthField file)
+  pub height : headerHeight r ≡ unlessRefused (headerRefusal file) (heightField file)
+  pub bits : headerBits r ≡ unlessRefused (headerRefusal file) (bitsOf (isTwo file))
+  pub payload : headerPayload r ≡ unlessRefused (headerRefusal file) (payloadOffset file)
