@@ -5,11 +5,15 @@ use Prim.Native.Nat.{ℕ, _+_, _*_, _<_}
 use lib.ListN.{getD}
 use Rattle.khronos.specs.Agrees.{Bytes, word32}
 use Rattle.khronos.specs.Storage.{khronosPicture}
-use Rattle.pvr.specs.Header.{u32At}
+use Rattle.files.specs.Fields.{u32At}
+use Rattle.ktx.specs.Picture as ktx
+use Rattle.ktx.specs.Picture.{KtxDecoded}
+use Rattle.ktx.specs.declared.Decoded.the-variants.{Done as KtxDone}
 use Rattle.pvrtc.specs.Calls.{TexelRead, RowDecoded, BlockDecoded}
 use Rattle.pvrtc.specs.declared.Decoded.the-variants.{Done}
 use Rattle.pvrtc.specs.declared.Picture.{Picture}
 use Rattle.pvrtc.specs.declared.Texel.the-variants.{Word}
+use Rattle.capi.specs.Ktx.{WroteKtx}
 use Rattle.capi.specs.Plate.{texelAnswer, WroteRow, WrotePicture}
 use Rattle.convert.specs.Output.{plateOf, levelData, programRefusal, output}
 
@@ -29,7 +33,12 @@ pub data Gives (p : Picture) (d : List ℕ) (x y v : ℕ) : Type 0 where
   by-c-texel : v < 4294967296 → v ≡ texelAnswer p d x y → Gives p d x y v
   by-c-row : (old new : List ℕ) → WroteRow p d y old new 0 → x < p .width → v ≡ getD new x 0 → Gives p d x y v
   by-c-picture : (old new : List ℕ) → WrotePicture p d old new 0 → x < p .width → y < p .height → v ≡ getD new (placeIn p x y) 0 → Gives p d x y v
-  -- The program writes it for a file, behind the 18 bytes of the header.
+  -- The call on a KTX file lays it at word y × width + x, and so in C.
+  by-ktx : (file old new : List ℕ) → ktx.plateOf file ≡ p → ktx.levelData file ≡ d → KtxDecoded file old new KtxDone → x < p .width → y < p .height
+      → v ≡ getD new (placeIn p x y) 0 → Gives p d x y v
+  by-c-ktx : (file old new : List ℕ) → ktx.plateOf file ≡ p → ktx.levelData file ≡ d → WroteKtx file old new 0 → x < p .width → y < p .height
+      → v ≡ getD new (placeIn p x y) 0 → Gives p d x y v
+  -- The program writes it for a file of either kind, behind the 18 bytes of the header.
   by-program : (file : List ℕ) → plateOf file ≡ p → levelData file ≡ d → programRefusal file ≡ 0 → x < p .width → y < p .height
       → v ≡ u32At (output file) (18 + 4 * placeIn p x y) → Gives p d x y v
 

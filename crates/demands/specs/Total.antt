@@ -14,18 +14,29 @@ use Rattle.pvrtc.specs.declared.Call.the-variants as call
 use Rattle.pvrtc.specs.declared.Decoded.{Decoded}
 use Rattle.pvrtc.specs.declared.Picture.{Picture}
 use Rattle.pvrtc.specs.declared.Texel.{Texel}
-use Rattle.pvr.specs.Header.{headerChecks, headerNumber, HeaderRead}
-use Rattle.pvr.specs.declared.Header.{Header}
+use Rattle.pvr.specs.Header as pvr
+use Rattle.pvr.specs.Header.{HeaderRead as PvrHeaderRead}
+use Rattle.pvr.specs.declared.Header.{Header as PvrHeader}
+use Rattle.ktx.specs.Header as ktx
+use Rattle.ktx.specs.Header.{HeaderRead as KtxHeaderRead}
+use Rattle.ktx.specs.Picture.{plateOf as ktxPlateOf, levelData as ktxData, pictureChecks, decodedNumber as ktxNumber, KtxDecoded}
+use Rattle.ktx.specs.declared.Decoded.{Decoded as KtxAnswer}
+use Rattle.ktx.specs.declared.Header.{Header as KtxHeader}
+use Rattle.capi.specs.Ktx.{ktxField, WroteKtx}
 use Rattle.capi.specs.Plate.{texelAnswer, WroteRow, WrotePicture, headerField}
 use Rattle.convert.specs.Output.{plateOf, levelData, programChecks, programRefusal, refusedLine, tga, output}
 
--- No two outcomes of a call meet its promise.
+-- No two outcomes of a call meet its promise: of the three calls on data, of both header readers, and of the call on a KTX file.
 pub record OneOutcome : Type 0 where
   pub texel : (p : Picture) (d : List ℕ) (x y : ℕ) (r s : Texel) → TexelRead p d x y r → TexelRead p d x y s → r ≡ s
   pub row : (p : Picture) (d : List ℕ) (y : ℕ) (old new new' : List ℕ) (r s : Decoded)
       → RowDecoded p d y old new r → RowDecoded p d y old new' s → (r ≡ s) × (new ≡ new')
   pub block : (p : Picture) (d old new new' : List ℕ) (r s : Decoded)
       → BlockDecoded p d old new r → BlockDecoded p d old new' s → (r ≡ s) × (new ≡ new')
+  pub pvr-header : (file : List ℕ) (r s : PvrHeader) → PvrHeaderRead file r → PvrHeaderRead file s → r ≡ s
+  pub ktx-header : (file : List ℕ) (r s : KtxHeader) → KtxHeaderRead file r → KtxHeaderRead file s → r ≡ s
+  pub ktx-picture : (file old new new' : List ℕ) (r s : KtxAnswer)
+      → KtxDecoded file old new r → KtxDecoded file old new' s → (r ≡ s) × (new ≡ new')
 
 -- What a texel call with these checks says by its number n and its word v.
 pub record TexelOutcome (l : List Check) (texel n v : ℕ) : Type 0 where
@@ -67,15 +78,26 @@ pub record Total (p : Picture) (d : List ℕ) : Type 0 where
   pub c-picture : (old new : List ℕ) (n : ℕ) → WrotePicture p d old new n
       → WordsOutcome (checks p (call.Block (length old)) (length d)) (pictureTexels p d) old new n
 
--- A file: its header, the header's number in C, and what the program writes.
+-- A file: its header read as PVR's, the header's number in C, and what the program writes for it, whichever it is.
 pub record TotalFile (file : List ℕ) : Type 0 where
   -- A number is given exactly when its condition holds and no earlier one does.
-  pub header : (r : Header) → HeaderRead file r → (n : ℕ) → 0 < n → (headerNumber r ≡ n) ↔ Given (headerChecks file) n
-  pub c-header : (n : ℕ) → 0 < n → (headerField file 0 ≡ n) ↔ Given (headerChecks file) n
+  pub header : (r : PvrHeader) → PvrHeaderRead file r → (n : ℕ) → 0 < n → (pvr.headerNumber r ≡ n) ↔ Given (pvr.headerChecks file) n
+  pub c-header : (n : ℕ) → 0 < n → (headerField file 0 ≡ n) ↔ Given (pvr.headerChecks file) n
   pub program : (n : ℕ) → 0 < n → (programRefusal file ≡ n) ↔ Given (programChecks file) n
   -- The program writes the line of a refusal alone, or the picture.
   pub refused : 0 < programRefusal file → output file ≡ refusedLine (programRefusal file)
   pub done : programRefusal file ≡ 0 → output file ≡ tga (plateOf file) (levelData file)
+
+-- A file read as KTX's: its header and its picture, and both in C.
+pub record TotalKtx (file : List ℕ) : Type 0 where
+  -- A number is given exactly when its condition holds and no earlier one does.
+  pub header : (r : KtxHeader) → KtxHeaderRead file r → (n : ℕ) → 0 < n → (ktx.headerNumber r ≡ n) ↔ Given (ktx.headerChecks file) n
+  pub c-header : (n : ℕ) → 0 < n → (ktxField file 0 ≡ n) ↔ Given (ktx.headerChecks file) n
+  -- A refusal changes no lent word, and success writes the texels in front.
+  pub picture : (old new : List ℕ) (r : KtxAnswer) → KtxDecoded file old new r
+      → WordsOutcome (pictureChecks file (length old)) (pictureTexels (ktxPlateOf file) (ktxData file)) old new (ktxNumber r)
+  pub c-picture : (old new : List ℕ) (n : ℕ) → WroteKtx file old new n
+      → WordsOutcome (pictureChecks file (length old)) (pictureTexels (ktxPlateOf file) (ktxData file)) old new n
 
 -- Data past 8n bytes has no effect: an outcome is right for d exactly when it is for d followed by anything.
 pub record PastUnread (p : Picture) (d more : List ℕ) : Type 0 where

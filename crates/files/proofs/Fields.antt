@@ -1,12 +1,13 @@
 -- A number in a file depends on its own bytes, and so on none behind them. Assumes nothing.
-use mathlib.Core.Path.{_≡_, refl, ap, _∙_}
+use mathlib.Core.Path.{_≡_, refl, sym, ap, _∙_}
 use mathlib.Core.Bool.{Bool, true, false, not}
 use mathlib.Core.List.{List, _++_}
 use Prim.Native.Nat.{ℕ, _+_, _*_, _<_, _≤_}
 use native.Mathlib.Nat.{add-assoc}
 use native.Mathlib.Omega.{arith}
 use lib.Dec.{T}
-use lib.ListN.{length, getD, List·getD-append}
+use lib.ListN.{length, getD, drop, length-drop, List·getD-append}
+use lib.Seq.{ext-getD, getD-drop}
 use Rattle.facts.specs.Finite.{allBelow}
 use Rattle.facts.proofs.Finite.{below}
 use Rattle.files.specs.Fields.{u32At, bitsOf}
@@ -41,6 +42,12 @@ from-parts file at k = rw (add-assoc at k 1, add-assoc at k 2, add-assoc at k 3)
 -- later bytes leave a number as it is
 pub field-before : (file more : List ℕ) (at : ℕ) → at + 4 ≤ length file → u32At (file ++ more) at ≡ u32At file at
 field-before file more at h = same-field (file ++ more) file at (λ k l. List·getD-append file more 0 (at + k) (omega arith))
+
+-- two files of one length that are alike from a place on have the same rest
+pub rest-same : (f g : List ℕ) (n : ℕ) → length f ≡ length g → ((i : ℕ) → n ≤ i → getD f i 0 ≡ getD g i 0) → drop n f ≡ drop n g
+rest-same f g n even e =
+    ext-getD 0 (drop n f) (drop n g) (length-drop n f ∙ omega (arith, even, length-drop n g))
+    (λ k _. getD-drop n f k 0 ∙ e (n + k) (omega arith) ∙ sym (getD-drop n g k 0))
 
 -- the bits of a texel tell the depth
 pub same-depth : (a b : Bool) → bitsOf a ≡ bitsOf b → a ≡ b

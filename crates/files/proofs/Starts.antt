@@ -1,7 +1,8 @@
 -- Comparing a file's first bytes from the front on. Assumes nothing.
-use mathlib.Core.Path.{_≡_, refl, _∙_}
+use mathlib.Core.Path.{_≡_, refl, sym, _∙_}
 use mathlib.Core.Bool.{Bool, true, false, _&&_}
 use mathlib.Core.List.{List, [], _∷_, _++_}
+use mathlib.Core.Logic.{⊎-elim}
 use Prim.Native.Nat.{ℕ, suc, _+_, _<_, _≤_}
 use native.Mathlib.Nat.{le-of-suc-le-suc, not-suc-le-zero}
 use native.Mathlib.Numerals.{add-one}
@@ -10,6 +11,7 @@ use lib.Dec.{eqb}
 use lib.ListN.{length, getD, drop, length-append, List·getD-append, drop-of-length-le}
 use lib.Seq.{drop-cons}
 use borrow.Author.Tests.{eq-eqb, ne-eqb}
+use Rattle.facts.proofs.Numbers.{lt-or-le}
 use Rattle.files.specs.Fields.{startsWith}
 
 -- a file that is too short does not start with the bytes
@@ -59,3 +61,11 @@ same-start (a ∷ f) (a' ∷ g) (b ∷ p) hf hg e =
 pub start-before : (file more p : List ℕ) → length p ≤ length file → startsWith (file ++ more) p ≡ startsWith file p
 start-before file more p h =
     same-start (file ++ more) file p (omega (arith, length-append file more)) h (λ i l. List·getD-append file more 0 i (omega arith))
+
+-- and so do two files of one length that are alike there, however short they are
+pub start-even : (f g p : List ℕ) → length f ≡ length g → ((i : ℕ) → i < length p → getD f i 0 ≡ getD g i 0) → startsWith f p ≡ startsWith g p
+start-even f g p h e =
+    ⊎-elim
+    (λ short. sym (too-short f p short) ∙ too-short g p (omega (arith, short)))
+    (λ long. same-start f g p long (omega (arith, long)) e)
+    (lt-or-le (length f) (length p))

@@ -25,15 +25,14 @@ use Rattle.ktx.specs.declared.Decoded.{Decoded}
 use Rattle.ktx.specs.declared.Decoded.the-variants.{OtherSize}
 
 -- the block call's answer keeps its number
-same-number : (s : Called) → decodedNumber (calledAs s) ≡ call.decodedNumber s
+pub same-number : (s : Called) → decodedNumber (calledAs s) ≡ call.decodedNumber s
 same-number called.Done = refl
 same-number (called.Refused f) = refl
 
--- past the sizes' refusals and with the size that the picture needs, it is the block call that speaks
-call-speaks : (p : Picture) (size len room : ℕ) → zeroSide p ≡ false → largeSide p ≡ false → size ≡ need p
-    → firstOf (sizedChecks p size len room) ≡ firstOf (checks p (Block room) len)
+-- with the size that the picture needs, it is the block call that speaks
+pub call-speaks : (p : Picture) (size len room : ℕ) → size ≡ need p → firstOf (sizedChecks p size len room) ≡ firstOf (checks p (Block room) len)
 unfolding firstOf outside
-call-speaks p size len room z l e = simp (z, l, eq-eqb size (need p) e)
+call-speaks p size len room e = simp (eq-eqb size (need p) e)
 
 -- where a number is said, nothing is written
 unwritten : (p : Picture) (size : ℕ) (d old : List ℕ) (r : Decoded) → decodedNumber r ≡ firstOf (sizedChecks p size (length d) (length old))
@@ -69,5 +68,5 @@ module _ (p : Picture) (s : Called) (says : Says s (sizeChecks p)) where
         → BlockDecoded p d old new t → r ≡ calledAs t → SizedDecoded p size d old new r
     by-call {t = t} done asked same b q =
         let speaks : firstOf (sizedChecks p size (length d) (length old)) ≡ refusal p (Block (length old)) d =
-        call-speaks p size (length d) (length old) (refused-none done 1) (refused-none done 2) (sym same ∙ asked) in
+        call-speaks p size (length d) (length old) (sym same ∙ asked) in
         record { number = ap decodedNumber q ∙ same-number t ∙ b .number ∙ sym speaks; words = rw speaks (b .words) }

@@ -1,26 +1,31 @@
 -- From a header's answer to the picture of the whole file. Assumes nothing.
 use mathlib.Core.Path.{_≡_, refl, sym, ap, _∙_}
-use mathlib.Core.Bool.{Bool, false, cond}
+use mathlib.Core.Bool.{Bool, true, false, cond, not, true≢false}
 use mathlib.Core.List.{List}
 use Prim.Native.Nat.{ℕ, _-_, _<_, _≤_}
 use native.Mathlib.Omega.{arith}
 use lib.Dec.{eqb}
 use lib.ListN.{length, take, drop, length-drop}
 use lib.Seq.{take-all}
-use borrow.Author.Tests.{ltb-false, ne-eqb}
-use Rattle.facts.specs.Checks.{firstOf}
+use borrow.Author.Tests.{eqb-true, ltb-false, ne-eqb}
+use Rattle.facts.specs.Checks.{Check, firstOf}
 use Rattle.facts.proofs.Checks.{none-said, first-append, said-first}
-use Rattle.pvrtc.specs.declared.Picture.{Picture}
+use Rattle.pvrtc.specs.Calls.{refusal, BlockDecoded}
 use Rattle.pvrtc.specs.Picture.{picture}
+use Rattle.pvrtc.specs.Refusals.{need}
+use Rattle.pvrtc.specs.declared.Call.the-variants.{Block}
+use Rattle.pvrtc.specs.declared.Decoded.{Decoded as Called}
+use Rattle.pvrtc.specs.declared.Picture.{Picture}
 use Rattle.ktx.specs.declared.Decoded.{Decoded}
 use Rattle.ktx.specs.declared.Decoded.the-variants.{Unread}
 use Rattle.ktx.specs.declared.Header.{Header}
 use Rattle.ktx.specs.declared.Header.the-variants.{Plate, Refused}
 use Rattle.ktx.specs.declared.HeaderRefusal.{HeaderRefusal}
 use Rattle.ktx.specs.Header.{sizeWord, payloadOffset, headerChecks, headerRefusal, numberOf, headerNumber, HeaderRead}
-use Rattle.ktx.specs.Inner.{SizedDecoded}
+use Rattle.ktx.specs.Inner.{calledAs, SizedDecoded}
 use Rattle.ktx.specs.Picture.{plateOf, levelData, sizedChecks, pictureRefusal, decodedNumber, KtxDecoded}
 use Rattle.ktx.proofs.Answers.{PlateRead, of-plate, number-above}
+use Rattle.ktx.proofs.Sized.{same-number, call-speaks}
 
 -- where the header is accepted, the data lies within the file
 pub payload-within : (file : List ℕ) → headerRefusal file ≡ 0 → payloadOffset file ≤ length file
@@ -69,3 +74,40 @@ module _ (file old : List ℕ) {header : Header} (read : HeaderRead file header)
 
         speaks : pictureRefusal file (length old) ≡ firstOf (sizedChecks (plateOf file) (sizeWord file) (length (levelData file)) (length old))
         speaks = picture-speaks file (length old) (plate .accepted)
+
+-- where the size word is the need, a file whose header is accepted is decoded as the block call decodes its data
+module _ (file : List ℕ) (accepted : headerRefusal file ≡ 0) (fits : sizeWord file ≡ need (plateOf file)) where
+  pub call-decides : (room : ℕ) → pictureRefusal file room ≡ refusal (plateOf file) (Block room) (levelData file)
+  call-decides room = picture-speaks file room accepted ∙ call-speaks (plateOf file) (sizeWord file) (length (levelData file)) room fits
+
+  pub as-block : {old new : List ℕ} (r : Called) → KtxDecoded file old new (calledAs r) → BlockDecoded (plateOf file) (levelData file) old new r
+  as-block {old} r a =
+      let e = call-decides (length old) in
+      record { number = sym (same-number r) ∙ a .number ∙ e; words = rw (← e) (a .words) }
+
+  pub of-block : {old new : List ℕ} (r : Called) → BlockDecoded (plateOf file) (levelData file) old new r → KtxDecoded file old new (calledAs r)
+  of-block {old} r b =
+      let e = call-decides (length old) in
+      record { number = same-number r ∙ b .number ∙ sym e; words = rw e (b .words) }
+
+-- and a file that is decoded has both
+module _ (file : List ℕ) (room : ℕ) (none : pictureRefusal file room ≡ 0) where
+  abbrev own : List Check
+  own = sizedChecks (plateOf file) (sizeWord file) (length (levelData file)) room
+
+  pub header-accepted : headerRefusal file ≡ 0
+  header-accepted = by (eqb (headerRefusal file) 0) refl (sym (first-append (headerChecks file) own tt) ∙ none)
+    where
+      by : (t : Bool) → eqb (headerRefusal file) 0 ≡ t → cond t (firstOf own) (headerRefusal file) ≡ 0 → headerRefusal file ≡ 0
+      by true e q = eqb-true (headerRefusal file) 0 e
+      by false e q = q
+
+  pub size-fits : sizeWord file ≡ need (plateOf file)
+  size-fits = is-equal (none-said own tt (sym (picture-speaks file room header-accepted) ∙ none) 36)
+    where
+      is-equal : not (eqb (sizeWord file) (need (plateOf file))) ≡ false → sizeWord file ≡ need (plateOf file)
+      is-equal e = by (eqb (sizeWord file) (need (plateOf file))) refl e
+        where
+          by : (t : Bool) → eqb (sizeWord file) (need (plateOf file)) ≡ t → not t ≡ false → sizeWord file ≡ need (plateOf file)
+          by true q _ = eqb-true _ _ q
+          by false q z = absurd (true≢false z)
