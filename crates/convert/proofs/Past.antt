@@ -41,7 +41,7 @@ module _ (file more : List ℕ) where
   says-before : storedIn file .payload ≤ length file → SameSays (saysOf (file ++ more)) (saysOf file)
   says-before h =
       either-before SameSays file more (omega (arith, payload-behind file))
-      (λ e. ktx.says-before file more (subst (λ (s : Says). s .plate .payload ≤ length file) (as-ktx file e) h))
+      (λ e. ktx.same-says (ktx.header-before file more (subst (λ (s : Says). s .plate .payload ≤ length file) (as-ktx file e) h)))
       (λ e. pvr.says-before file more (omega (arith, payload-behind file)))
 
   -- a file that the header or a limit refuses

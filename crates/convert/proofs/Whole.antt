@@ -34,7 +34,7 @@ data-is file start payload e =
     (lt-or-le payload (length file))
 
 -- the parts of an answer may be replaced by equal ones
-answered-same : {n m : ℕ} {p q : Picture} {d e image image' out out' : List ℕ} {r : ℕ} → n ≡ m → p ≡ q → d ≡ e → Answered n p d image image' out out' r
+pub answered-same : {n m : ℕ} {p q : Picture} {d e image image' out out' : List ℕ} {r : ℕ} → n ≡ m → p ≡ q → d ≡ e → Answered n p d image image' out out' r
     → Answered m q e image image' out out' r
 answered-same en ep ed a = rw (← en, ← ep, ← ed) a
 

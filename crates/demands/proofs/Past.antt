@@ -22,7 +22,7 @@ use Rattle.pvrtc.proofs.Past.{refusal-past, picture-past}
 use Rattle.demands.specs.Total.{PastUnread, NothingPast, SameInC}
 
 -- a choice by a number that is 0 where both arms need be the same
-chosen : {A : Type 0} (n : ℕ) (a b c : A) → (n ≡ 0 → a ≡ b) → cond (eqb n 0) a c ≡ cond (eqb n 0) b c
+pub chosen : {A : Type 0} (n : ℕ) (a b c : A) → (n ≡ 0 → a ≡ b) → cond (eqb n 0) a c ≡ cond (eqb n 0) b c
 chosen n a b c e = by (eqb n 0) refl
   where
     by : (t : Bool) → eqb n 0 ≡ t → cond t a c ≡ cond t b c

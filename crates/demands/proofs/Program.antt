@@ -12,12 +12,12 @@ use Rattle.facts.proofs.Numbers.{split}
 use Rattle.facts.proofs.Tab.{getD-tab}
 use Rattle.grid.specs.Grid.{blockAddress}
 use Rattle.texel.proofs.Range.{texel-below}
-use Rattle.pvr.specs.Header.{u32At, metadataSize}
+use Rattle.files.specs.Fields.{u32At}
 use Rattle.pvrtc.specs.Calls.{refusal}
 use Rattle.pvrtc.specs.Picture.{gridOf, pictureTexel}
 use Rattle.pvrtc.specs.declared.Call.the-variants as call
 use Rattle.pvrtc.specs.declared.Picture.{Picture}
-use Rattle.convert.specs.Output.{plateOf, levelData, programRefusal, byteOf, tgaHeader, tgaOf, tga, output}
+use Rattle.convert.specs.Output.{storedIn, plateOf, levelData, programRefusal, byteOf, tgaHeader, tgaOf, tga, output}
 use Rattle.convert.proofs.Answers.{written-tga}
 use Rattle.convert.proofs.Limits.{kept, call-says}
 use Rattle.convert.proofs.Said.{none-early, none-said}
@@ -28,7 +28,7 @@ module _ (file : List ℕ) (none : programRefusal file ≡ 0) where
   block-accepted =
       let p : Picture = plateOf file in
       let no = none-said file none in
-      let k = kept p (metadataSize file) (none-early file (no .0)) in
+      let k = kept (storedIn file) (none-early file (no .0)) in
       call-says p (p .width * p .height) (length (levelData file)) (k .sides) (k .small) (omega arith) ∙ no .1
 
   pub is-tga : output file ≡ tga (plateOf file) (levelData file)

@@ -6,7 +6,11 @@ use Prim.Native.Nat.{ℕ, _+_, _*_, _<_}
 use native.Mathlib.Omega.{arith}
 use lib.Dec.{eqb}
 use lib.ListN.{length, getD}
-use Rattle.pvr.specs.Header.{u32At}
+use Rattle.files.specs.Fields.{u32At}
+use Rattle.ktx.specs.Picture as ktx
+use Rattle.ktx.specs.Picture.{KtxDecoded}
+use Rattle.ktx.specs.declared.Decoded.the-variants as ktx-answer
+use Rattle.ktx.proofs.Whole.{header-accepted, size-fits, as-block}
 use Rattle.pvrtc.specs.Calls.{refusal, TexelRead, Written, RowDecoded, BlockDecoded}
 use Rattle.pvrtc.specs.Picture.{pictureTexel}
 use Rattle.pvrtc.specs.declared.Call.{Call}
@@ -19,7 +23,7 @@ use Rattle.pvrtc.proofs.Agree.{row-is, block-is}
 use Rattle.capi.specs.Plate.{texelAnswer, Wrote}
 use Rattle.capi.proofs.Answers.{number-back, value-back}
 use Rattle.convert.specs.Output.{plateOf, levelData, programRefusal, output}
-use Rattle.demands.specs.Right.{placeIn, Gives, by-texel, by-row, by-block, by-c-texel, by-c-row, by-c-picture, by-program}
+use Rattle.demands.specs.Right.{placeIn, Gives, by-texel, by-row, by-block, by-c-texel, by-c-row, by-c-picture, by-ktx, by-c-ktx, by-program}
 use Rattle.demands.proofs.Program.{block-accepted, is-tga, tga-texel}
 
 -- a texel of an accepted picture, and its word
@@ -37,6 +41,10 @@ answered p d x y v t = t .value ∙ rw (sym (t .number))
 -- what C is told where nothing is refused, the call was answered
 pub of-wrote : {n : ℕ} {done old new : List ℕ} → Wrote n done old new 0 → Written n done old new Done
 of-wrote w = record { number = w .number; words = w .words }
+
+-- the picture and the data of a call may be replaced by equal ones
+moved-block : {p q : Picture} {d e old new : List ℕ} → p ≡ q → d ≡ e → BlockDecoded p d old new Done → BlockDecoded q e old new Done
+moved-block ep ed b = rw (← ep, ← ed) b
 
 module _ (p : Picture) (d : List ℕ) (x y v : ℕ) where
   -- an accepted texel call
@@ -74,6 +82,15 @@ module _ (p : Picture) (d : List ℕ) (x y v : ℕ) where
       let value : v ≡ cond (eqb (refusal p (call.Texel x y) d) 0) (pictureTexel p d x y) 0 = omega (arith, value-back p d x y) in
       of-texel none (value ∙ rw none refl)
 
+  -- a KTX file is decoded as the block call decodes its data
+  of-ktx : (file old : List ℕ) {new : List ℕ} → ktx.plateOf file ≡ p → ktx.levelData file ≡ d → KtxDecoded file old new ktx-answer.Done
+      → x < p .width → y < p .height → v ≡ getD new (placeIn p x y) 0 → Seen p d x y v
+  of-ktx file old {new} ep ed w hx hy q =
+      let none = sym (w .number) in
+      let b : BlockDecoded (ktx.plateOf file) (ktx.levelData file) old new Done =
+      as-block file (header-accepted file (length old) none) (size-fits file (length old) none) Done w in
+      of-block (moved-block ep ed b) hx hy q
+
   of-program : (file : List ℕ) → plateOf file ≡ p → levelData file ≡ d → programRefusal file ≡ 0 → x < p .width → y < p .height
       → v ≡ u32At (output file) (18 + 4 * placeIn p x y) → Seen p d x y v
   of-program file ep ed none hx hy q =
@@ -93,4 +110,6 @@ module _ (p : Picture) (d : List ℕ) (x y v : ℕ) where
   seen (by-c-texel low e) = of-c-texel low e
   seen (by-c-row old new w hx q) = of-row (of-wrote w) hx q
   seen (by-c-picture old new w hx hy q) = of-block (of-wrote w) hx hy q
+  seen (by-ktx file old new ep ed w hx hy q) = of-ktx file old ep ed w hx hy q
+  seen (by-c-ktx file old new ep ed w hx hy q) = of-ktx file old ep ed (record { number = w .number; words = w .words }) hx hy q
   seen (by-program file ep ed none hx hy q) = of-program file ep ed none hx hy q

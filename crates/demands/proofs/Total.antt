@@ -22,15 +22,30 @@ use Rattle.pvrtc.specs.declared.Picture.{Picture}
 use Rattle.pvrtc.proofs.Accepted.{accepted, width-above, row-roomy, block-roomy}
 use Rattle.pvrtc.proofs.Unique.{one-texel, one-written}
 use Rattle.pvr.specs.Header.{headerChecks}
-use Rattle.pvr.proofs.Answers as header
+use Rattle.pvr.proofs.Answers as pvr-header
+use Rattle.pvr.proofs.Unique as pvr
+use Rattle.ktx.specs.Header as ktx-spec
+use Rattle.ktx.specs.Picture.{plateOf, levelData, pictureChecks, pictureRefusal}
+use Rattle.ktx.proofs.Answers as ktx-header
+use Rattle.ktx.proofs.Unique as ktx
+use Rattle.ktx.proofs.Whole.{call-decides, header-accepted, size-fits}
 use Rattle.capi.proofs.Answers.{number-back, value-back}
-use Rattle.convert.specs.Output.{plateOf, levelData, programRefusal}
+use Rattle.convert.specs.Output as output
+use Rattle.convert.specs.Output.{programRefusal}
 use Rattle.convert.proofs.Answers.{written-line, written-tga}
 use Rattle.convert.proofs.Said as program
-use Rattle.demands.specs.Total.{OneOutcome, TexelOutcome, WordsOutcome, rowTexels, pictureTexels, Total, TotalFile}
+use Rattle.demands.specs.Total.{OneOutcome, TexelOutcome, WordsOutcome, rowTexels, pictureTexels, Total, TotalFile, TotalKtx}
 
 pub one-outcome : OneOutcome
-one-outcome = record { texel = one-texel; row = λ p d y old new new' r s. one-written; block = λ p d old new new' r s. one-written }
+one-outcome =
+    record {
+      texel = one-texel;
+      row = λ p d y old new new' r s. one-written;
+      block = λ p d old new new' r s. one-written;
+      pvr-header = pvr.one-header;
+      ktx-header = ktx.one-header;
+      ktx-picture = λ file old new new' r s. ktx.one-decoded;
+    }
 
 -- a number and a word that the promise of a texel call determines
 texel-outcome : (l : List Check) (texel : ℕ) {n v : ℕ} → n ≡ firstOf l → v ≡ cond (eqb (firstOf l) 0) texel 0 → TexelOutcome l texel n v
@@ -94,9 +109,27 @@ module _ (p : Picture) (d : List ℕ) where
 pub total-file : (file : List ℕ) → TotalFile file
 total-file file =
     record {
-      header = λ r read. header.refused-when read;
+      header = λ r read. pvr-header.refused-when read;
       c-header = exactly-when (headerChecks file);
       program = program.refused-when file;
-      refused = written-line (programRefusal file) (plateOf file) (levelData file);
-      done = written-tga (programRefusal file) (plateOf file) (levelData file);
+      refused = written-line (programRefusal file) (output.plateOf file) (output.levelData file);
+      done = written-tga (programRefusal file) (output.plateOf file) (output.levelData file);
     }
+
+-- a KTX file whose picture is accepted: the block call on its data is
+module _ (file : List ℕ) where
+  ktx-front : (old : List ℕ) → pictureRefusal file (length old) ≡ 0
+      → painted 0 (plateOf file .width) (plateOf file .width) (plateOf file .height) (pictureTexel (plateOf file) (levelData file)) old
+      ≡ pictureTexels (plateOf file) (levelData file) ++ drop (length (pictureTexels (plateOf file) (levelData file))) old
+  ktx-front old e =
+      let room = length old in
+      block-front (plateOf file) (levelData file) old (sym (call-decides file (header-accepted file room e) (size-fits file room e) room) ∙ e)
+
+  pub total-ktx : TotalKtx file
+  total-ktx =
+      record {
+        header = λ r read. ktx-header.refused-when read;
+        c-header = exactly-when (ktx-spec.headerChecks file);
+        picture = λ old new r w. words-outcome (pictureChecks file (length old)) (pictureTexels (plateOf file) (levelData file)) _ (ktx-front old) (w .number) (w .words);
+        c-picture = λ old new n w. words-outcome (pictureChecks file (length old)) (pictureTexels (plateOf file) (levelData file)) _ (ktx-front old) (w .number) (w .words);
+      }

@@ -3,9 +3,12 @@ pub mod Footprint
 pub mod Idle
 pub mod Local
 pub mod LocalCalls
+pub mod LocalFiles
 pub mod NoEffect
 pub mod Numbers
+pub mod Orders
 pub mod Right
+pub mod SamePlate
 pub mod Samples
 pub mod Table
 pub mod Total

@@ -1,30 +1,57 @@
 -- What of a file has no effect, over everything that reads one. Assumes nothing: these are definitions.
 use mathlib.Core.Path.{_≡_}
-use mathlib.Core.Bool.{false}
+use mathlib.Core.Bool.{true, false}
 use mathlib.Core.List.{List, _++_}
 use mathlib.Core.Logic.{_↔_}
 use Prim.Native.Nat.{ℕ, _+_, _≤_}
 use lib.ListN.{length, getD}
-use Rattle.pvr.specs.Header.{payloadOffset, HeaderRead}
+use Rattle.pvr.specs.Header.{HeaderRead as PvrHeaderRead}
 use Rattle.pvr.specs.NoEffect.{hasNoEffect}
-use Rattle.pvr.specs.declared.Header.{Header}
+use Rattle.pvr.specs.declared.Header.{Header as PvrHeader}
+use Rattle.ktx.specs.Header.{payloadOffset, HeaderRead as KtxHeaderRead}
+use Rattle.ktx.specs.NoEffect.{SameButIgnored}
+use Rattle.ktx.specs.Picture as ktx
+use Rattle.ktx.specs.Picture.{KtxDecoded}
+use Rattle.ktx.specs.declared.Decoded.{Decoded as KtxAnswer}
+use Rattle.ktx.specs.declared.Header.{Header as KtxHeader}
 use Rattle.pvrtc.specs.Refusals.{need}
+use Rattle.capi.specs.Ktx.{ktxField, WroteKtx}
 use Rattle.capi.specs.Plate.{headerField}
-use Rattle.convert.specs.Output.{plateOf, output, Converted, ConvertedInRoom}
+use Rattle.convert.specs.Output.{isKtx, storedIn, plateOf, output, Converted, ConvertedInRoom}
 
--- Two files that differ in flags, colour space and channel type alone.
+-- Two files that differ in PVR's flags, colour space and channel type alone.
 pub record SameButFlags (f g : List ℕ) : Type 0 where
   pub size : length f ≡ length g
   pub bytes : (i : ℕ) → hasNoEffect i ≡ false → getD f i 0 ≡ getD g i 0
 
--- They have no effect: on the header's answer, on a field that C asks for, on the program's output, and on what `convert` lays.
-pub record NoEffect (f g : List ℕ) : Type 0 where
-  pub header : (r : Header) → HeaderRead f r ↔ HeaderRead g r
-  pub field : (k : ℕ) → headerField f k ≡ headerField g k
+-- The program makes the same of two files: its output, and what `convert` lays.
+pub record SameProgram (f g : List ℕ) : Type 0 where
   pub written : output f ≡ output g
   pub laid : (image image' out out' : List ℕ) (r : ℕ) → Converted f image image' out out' r ↔ Converted g image image' out out' r
   pub laid-in-room : (image image' out out' : List ℕ) (r : ℕ) → ConvertedInRoom f image image' out out' r ↔ ConvertedInRoom g image image' out out' r
 
--- Level 0 follows the metadata and has 8n bytes; later bytes are unread. A file that has these bytes has its output whatever follows.
-abbrev pub LaterUnread : Type 0
-LaterUnread = (file more : List ℕ) → payloadOffset file + need (plateOf file) ≤ length file → output (file ++ more) ≡ output file
+-- They have no effect: on the header's answer, on a field that C asks for, and on the program where it takes the file as PVR.
+pub record NoEffect (f g : List ℕ) : Type 0 where
+  pub header : (r : PvrHeader) → PvrHeaderRead f r ↔ PvrHeaderRead g r
+  pub field : (k : ℕ) → headerField f k ≡ headerField g k
+  pub program : isKtx f ≡ false → SameProgram f g
+
+-- Nor have KTX's type size, base format, levels and the key/value bytes themselves, on what its readers answer, in C too, and on the program where
+-- it takes the file as KTX.
+pub record NoEffectKtx (f g : List ℕ) : Type 0 where
+  pub header : (r : KtxHeader) → KtxHeaderRead f r ↔ KtxHeaderRead g r
+  pub field : (k : ℕ) → ktxField f k ≡ ktxField g k
+  pub picture : (old new : List ℕ) (r : KtxAnswer) → KtxDecoded f old new r ↔ KtxDecoded g old new r
+  pub c-picture : (old new : List ℕ) (n : ℕ) → WroteKtx f old new n ↔ WroteKtx g old new n
+  pub program : isKtx f ≡ true → SameProgram f g
+
+-- So it is for every two such files.
+pub record NothingElse : Type 0 where
+  pub pvr : (f g : List ℕ) → SameButFlags f g → NoEffect f g
+  pub ktx : (f g : List ℕ) → SameButIgnored f g → NoEffectKtx f g
+
+-- Level 0 has 8n bytes; later bytes are unread. A file that has these bytes has its output whatever follows, and its picture as a KTX file.
+pub record LaterUnread : Type 0 where
+  pub program : (file more : List ℕ) → storedIn file .payload + need (plateOf file) ≤ length file → output (file ++ more) ≡ output file
+  pub ktx-picture : (file more : List ℕ) → payloadOffset file + need (ktx.plateOf file) ≤ length file
+      → (old new : List ℕ) (r : KtxAnswer) → KtxDecoded file old new r ↔ KtxDecoded (file ++ more) old new r

@@ -1,5 +1,5 @@
 -- Type size, base format, levels, the key/value bytes and whatever follows level 0 have no effect on how a file is read. Assumes nothing.
-use mathlib.Core.Path.{_≡_, refl, sym, ap, ap₂, _∙_}
+use mathlib.Core.Path.{_≡_, refl, sym, ap, ap₂, subst, _∙_}
 use mathlib.Core.Bool.{Bool, true, false, cond, not, _&&_}
 use mathlib.Core.List.{List, [], _∷_, _++_}
 use Prim.Native.Nat.{ℕ, _+_, _<_, _≤_}
@@ -73,13 +73,13 @@ module _ {f g : List ℕ} (s : SameFields f g) where
       by false e = rw (s .short, same-identifier e, same-order, same-unknown, same-plates)
 
 -- equal pictures whose data has equal sizes are refused alike, and lay the same words
-sized-alike : {p q : Picture} {s t len len' : ℕ} (room : ℕ) → p ≡ q → s ≡ t → len ≡ len'
+pub sized-alike : {p q : Picture} {s t len len' : ℕ} (room : ℕ) → p ≡ q → s ≡ t → len ≡ len'
     → firstOf (sizedChecks p s len room) ≡ firstOf (sizedChecks q t len' room)
 sized-alike {q = q} {s} {t} {len} room ep es el =
     ap (λ (x : Picture). firstOf (sizedChecks x s len room)) ep
     ∙ ap₂ (λ (n m : ℕ). firstOf (sizedChecks q n m room)) es el
 
-words-alike : {n m : ℕ} {p q : Picture} {d e : List ℕ} (old : List ℕ) → n ≡ m → p ≡ q → d ≡ e
+pub words-alike : {n m : ℕ} {p q : Picture} {d e : List ℕ} (old : List ℕ) → n ≡ m → p ≡ q → d ≡ e
     → cond (eqb n 0) (onSheet (sheetOf p) (pictureTexel p d) old) old ≡ cond (eqb m 0) (onSheet (sheetOf q) (pictureTexel q e) old) old
 words-alike {m = m} {p} {q} {d} old en ep ed =
     ap (λ (n : ℕ). cond (eqb n 0) (onSheet (sheetOf p) (pictureTexel p d) old) old) en
@@ -90,7 +90,7 @@ module _ {f g : List ℕ} (s : SameHeader f g) where
   same-place : sizePlace f ≡ sizePlace g
   same-place = ap (λ (n : ℕ). headerSize + n) (same-key-values (s .fields))
 
-  same-word : sizeWord f ≡ sizeWord g
+  pub same-word : sizeWord f ≡ sizeWord g
   same-word = same-field f g (sizePlace f) (s .size) ∙ ap (u32At g) same-place
 
   same-plate : ktxPlate f ≡ ktxPlate g
@@ -151,6 +151,15 @@ module _ {f g : List ℕ} (s : SameHeader f g) where
           words = a .words ∙ words-alike old (same-refusal (length old)) same-picture same-data;
         }
 
+pub header-turned : {f g : List ℕ} → SameHeader f g → SameHeader g f
+header-turned {f} {g} s =
+    let fields : SameFields g f = record { short = sym (s .fields .short); bytes = λ i h e. sym (s .fields .bytes i h e) } in
+    record {
+      fields = fields;
+      cut = sym (s .cut);
+      size = λ k h. sym (subst (λ (n : ℕ). getD f (n + k) 0 ≡ getD g (n + k) 0) (same-place s) (s .size k h));
+    }
+
 -- whatever follows the fields leaves what these say
 module _ (file more : List ℕ) where
   longer : length file ≤ length (file ++ more)
@@ -192,6 +201,12 @@ module _ {f g : List ℕ} (s : SameButIgnored f g) where
   past-ignored : (i : ℕ) → sizePlace f ≤ i → getD f i 0 ≡ getD g i 0
   past-ignored i h =
       s .bytes i (past-fields i (omega arith)) (simp (le-leb headerSize i (omega arith), le-ltb i (sizePlace f) h))
+
+  -- the identifier's bytes are none of the ignored ones
+  pub first-kept : (i : ℕ) → i < 12 → getD f i 0 ≡ getD g i 0
+  first-kept i h =
+      s .bytes i (simp (lt-leb 20 i (omega arith), lt-leb 32 i (omega arith), lt-leb 56 i (omega arith)))
+      (ap (λ (t : Bool). t && ltb i (sizePlace f)) (lt-leb headerSize i (omega arith)))
 
   pub header-same : SameHeader f g
   header-same =

@@ -1,0 +1,77 @@
+-- What follows level 0 of a KTX file has no effect on its picture. Assumes nothing.
+use mathlib.Core.Path.{_≡_, refl, sym, ap, ap₂, _∙_}
+use mathlib.Core.Bool.{false, cond}
+use mathlib.Core.List.{List, _++_}
+use mathlib.Core.Logic.{_↔_}
+use Prim.Native.Nat.{ℕ, _+_, _≤_}
+use native.Mathlib.Omega.{arith}
+use lib.Dec.{eqb}
+use lib.ListN.{length, drop, length-append, length-drop}
+use lib.Seq.{drop-append-le}
+use borrow.Author.Tests.{le-ltb}
+use Rattle.facts.specs.Checks.{firstOf}
+use Rattle.facts.proofs.Checks.{first-append}
+use Rattle.paint.specs.Sheet.{onSheet}
+use Rattle.paint.proofs.Painted.{painted-same}
+use Rattle.pvrtc.specs.Calls.{refusal}
+use Rattle.pvrtc.specs.Picture.{sheetOf, pictureTexel}
+use Rattle.pvrtc.specs.Refusals.{need, shortData}
+use Rattle.pvrtc.specs.declared.Call.the-variants.{Block}
+use Rattle.pvrtc.proofs.Past.{picture-past}
+use Rattle.ktx.specs.Header.{sizeWord, payloadOffset, headerChecks}
+use Rattle.ktx.specs.NoEffect.{SameHeader}
+use Rattle.ktx.specs.Picture.{plateOf, levelData, sizedChecks, pictureRefusal, KtxDecoded}
+use Rattle.ktx.specs.declared.Decoded.{Decoded}
+use Rattle.ktx.proofs.NoEffect.{header-before, same-number, same-picture, same-word, same-payload, sized-alike, words-alike}
+use Rattle.ktx.proofs.Whole.{call-decides, header-accepted, size-fits}
+use Rattle.demands.proofs.Past.{chosen}
+
+module _ (file more : List ℕ) (enough : payloadOffset file + need (plateOf file) ≤ length file) where
+  header : SameHeader (file ++ more) file
+  header = header-before file more (omega arith)
+
+  has : need (plateOf file) ≤ length (levelData file)
+  has = omega (arith, length-drop (payloadOffset file) file)
+
+  data-more : levelData (file ++ more) ≡ levelData file ++ more
+  data-more =
+      ap (λ (n : ℕ). drop n (file ++ more)) (same-payload header) ∙ drop-append-le (payloadOffset file) file more (omega arith)
+
+  -- longer data is not short either
+  sized-past : (room : ℕ) → firstOf (sizedChecks (plateOf file) (sizeWord file) (length (levelData file ++ more)) room)
+      ≡ firstOf (sizedChecks (plateOf file) (sizeWord file) (length (levelData file)) room)
+  sized-past room =
+      let d = levelData file in
+      let long : shortData (plateOf file) (length (d ++ more)) ≡ false = le-ltb (length (d ++ more)) (need (plateOf file)) (omega (arith, length-append d more, has)) in
+      let same : shortData (plateOf file) (length d) ≡ false = le-ltb (length d) (need (plateOf file)) has in
+      rw (long, same) refl
+
+  number : (room : ℕ) → pictureRefusal (file ++ more) room ≡ pictureRefusal file room
+  number room =
+      first-append (headerChecks (file ++ more)) _ tt
+      ∙ ap₂ (λ (n m : ℕ). cond (eqb n 0) m n) (same-number header)
+      (sized-alike room (same-picture header) (same-word header) (ap length data-more) ∙ sized-past room)
+      ∙ sym (first-append (headerChecks file) _ tt)
+
+  -- where the file is decoded, each texel is the same
+  texel : (room : ℕ) → pictureRefusal file room ≡ 0 → (x y : ℕ) → pictureTexel (plateOf file) (levelData file) x y ≡ pictureTexel (plateOf file) (levelData file ++ more) x y
+  texel room none x y =
+      let ok : refusal (plateOf file) (Block room) (levelData file) ≡ 0 =
+      sym (call-decides file (header-accepted file room none) (size-fits file room none) room) ∙ none in
+      sym (picture-past (plateOf file) (levelData file) more has (Block room) ok x y)
+
+  words : (old : List ℕ) → cond (eqb (pictureRefusal file (length old)) 0) (onSheet (sheetOf (plateOf file)) (pictureTexel (plateOf file) (levelData file)) old) old
+      ≡ cond (eqb (pictureRefusal (file ++ more) (length old)) 0)
+      (onSheet (sheetOf (plateOf (file ++ more))) (pictureTexel (plateOf (file ++ more)) (levelData (file ++ more))) old) old
+  words old =
+      let w : ℕ = plateOf file .width in
+      chosen (pictureRefusal file (length old)) _ (onSheet (sheetOf (plateOf file)) (pictureTexel (plateOf file) (levelData file ++ more)) old) old
+      (λ none. painted-same 0 w w (plateOf file .height) _ _ old (omega arith) (λ x y _ _. texel (length old) none x y))
+      ∙ sym (words-alike old (number (length old)) (same-picture header) data-more)
+
+  pub picture-unread : (old new : List ℕ) (r : Decoded) → KtxDecoded file old new r ↔ KtxDecoded (file ++ more) old new r
+  picture-unread old new r =
+      let n = number (length old) in (
+        λ a. record { number = a .number ∙ sym n; words = a .words ∙ words old },
+        λ a. record { number = a .number ∙ n; words = a .words ∙ sym (words old) },
+      )
