@@ -47,7 +47,7 @@ early-first file =
     ∙ nested (headerRefusal file) (firstOf (limitChecks (storedIn file))) (firstOf (payloadChecks (plateOf file) (length (levelData file))))
 
 -- of two numbers, the first or else the second, neither is said where the choice is 0
-both-none : (a b : ℕ) → cond (eqb a 0) b a ≡ 0 → (a ≡ 0) × (b ≡ 0)
+pub both-none : (a b : ℕ) → cond (eqb a 0) b a ≡ 0 → (a ≡ 0) × (b ≡ 0)
 both-none a b e = by (eqb a 0) refl e
   where
     by : (t : Bool) → eqb a 0 ≡ t → cond t b a ≡ 0 → (a ≡ 0) × (b ≡ 0)

@@ -1,2 +1,104 @@
--- Demand 3 over files. Assumes nothing.
-use Rattle.demands.specs.LocalFiles.{LocalFiles}
+-- Demand 3 over files: a damaged file has the same header, and data that differs in one block alone. Assumes nothing.
+use mathlib.Core.Path.{_≡_, refl, sym, ap, subst, _∙_}
+use mathlib.Core.Bool.{Bool, true, false}
+use mathlib.Core.List.{List}
+use mathlib.Core.Logic.{⊎-elim}
+use Prim.Native.Nat.{ℕ, _+_, _*_, _≤_, _<_}
+use native.Mathlib.Omega.{arith}
+use lib.ListN.{length, getD, drop, length-drop}
+use lib.Seq.{getD-drop}
+use Rattle.facts.proofs.Numbers.{lt-or-le}
+use Rattle.files.specs.Reading.{Says}
+use Rattle.files.specs.declared.Stored.{Stored}
+use Rattle.files.proofs.Answers.{SameSays}
+use Rattle.files.proofs.Starts.{start-even}
+use Rattle.pvr.specs.Header as pvr
+use Rattle.pvr.proofs.NoEffect as pvr-same
+use Rattle.ktx.specs.Header.{headerSize, sizePlace, payloadOffset}
+use Rattle.ktx.specs.NoEffect.{SameHeader}
+use Rattle.ktx.specs.Picture as ktx
+use Rattle.ktx.specs.Picture.{pictureRefusal}
+use Rattle.ktx.proofs.NoEffect as ktx-same
+use Rattle.pvrtc.specs.declared.Picture.{Picture}
+use Rattle.pvrtc.proofs.Accepted.{passed}
+use Rattle.convert.specs.Output.{ktxBytes, isKtx, saysOf, storedIn, pictureOf, plateOf, levelData, programRefusal}
+use Rattle.convert.proofs.Either.{as-ktx, as-pvr, payload-behind}
+use Rattle.demands.specs.Footprint.{SameOutside}
+use Rattle.demands.specs.LocalCalls.{blocksOf}
+use Rattle.demands.specs.LocalFiles.{DamagedAt, OnlyNear, LocalFiles}
+use Rattle.demands.proofs.LocalCalls.{local-pictures}
+use Rattle.demands.proofs.NoEffect.{same-refusal}
+use Rattle.demands.proofs.Seen.{seen}
+
+-- data that differs in one block alone gives texels that differ in its rectangle alone
+only-near : (p : Picture) (d d' : List ℕ) (z : ℕ) → SameOutside (blocksOf p) d d' z → OnlyNear p d d' z
+only-near p d d' z same x y v w a b differ =
+    let s = seen p d x y v a in
+    local-pictures p (s .call) d (passed p (s .call) (length d) (s .ok)) .only x y z v w d d' same a b differ
+
+module _ {start : ℕ} {f g : List ℕ} {z : ℕ} (s : DamagedAt start f g z) where
+  -- what stands in front of the data is the same
+  in-front : (i : ℕ) → i < start → getD f i 0 ≡ getD g i 0
+  in-front i h = s .before i (omega arith)
+
+  -- and so is every other block of it
+  other-blocks : (n : ℕ) → SameOutside n (drop start f) (drop start g) z
+  other-blocks n b l other k h =
+      getD-drop start f (8 * b + k) 0
+      ∙ ⊎-elim
+      (λ less. s .before (start + (8 * b + k)) (omega (arith, less)))
+      (λ more. s .behind (start + (8 * b + k)) (omega (arith, more, other)))
+      (lt-or-le b z)
+      ∙ sym (getD-drop start g (8 * b + k) 0)
+
+  even : length (drop start f) ≡ length (drop start g)
+  even = length-drop start f ∙ omega (arith, s .size, length-drop start g)
+
+-- a damaged KTX file
+module _ (f g : List ℕ) (z : ℕ) (s : DamagedAt (payloadOffset f) f g z) where
+  header : SameHeader f g
+  header =
+      ktx-same.of-one-length f g (s .size) (λ i h _. in-front s i (omega arith)) (λ k h. in-front s (sizePlace f + k) (omega arith))
+
+  -- its data begins at the same place
+  from-there : drop (payloadOffset f) g ≡ ktx.levelData g
+  from-there = ap (λ (n : ℕ). drop n g) (ktx-same.same-payload header)
+
+  ktx-near : (ktx.plateOf f ≡ ktx.plateOf g) × ((room : ℕ) → pictureRefusal f room ≡ pictureRefusal g room)
+      × OnlyNear (ktx.plateOf f) (ktx.levelData f) (ktx.levelData g) z
+  ktx-near = (
+    ktx-same.same-picture header,
+    ktx-same.same-refusal header (even s ∙ ap length from-there),
+    only-near (ktx.plateOf f) (ktx.levelData f) (ktx.levelData g) z
+        (subst (λ (d : List ℕ). SameOutside (blocksOf (ktx.plateOf f)) (ktx.levelData f) d z) from-there (other-blocks s (blocksOf (ktx.plateOf f)))),
+  )
+
+-- a damaged file of either kind
+module _ (f g : List ℕ) (z : ℕ) (s : DamagedAt (storedIn f .payload) f g z) where
+  same-kind : isKtx f ≡ isKtx g
+  same-kind = start-even f g ktxBytes (s .size) (λ i h. in-front s i (omega (arith, payload-behind f)))
+
+  same-says : SameSays (saysOf f) (saysOf g)
+  same-says = by (isKtx f) refl
+    where
+      by : (t : Bool) → isKtx f ≡ t → SameSays (saysOf f) (saysOf g)
+      by true e =
+          let here = subst (λ (t : Says). DamagedAt (t .plate .payload) f g z) (as-ktx f e) s in
+          rw (as-ktx f e, as-ktx g (sym same-kind ∙ e)) (ktx-same.same-says (header f g z here))
+      by false e =
+          let front : (i : ℕ) → i < pvr.headerSize → getD f i 0 ≡ getD g i 0 = λ i h. in-front s i (omega (arith, payload-behind f)) in
+          rw (as-pvr f e, as-pvr g (sym same-kind ∙ e)) (pvr-same.same-says (pvr-same.of-one-length f g (λ i h _. front i h) (s .size)))
+
+  same-rest : drop (storedIn f .payload) g ≡ levelData g
+  same-rest = ap (λ (t : Stored). drop (t .payload) g) (same-says .plate)
+
+  program-near : (plateOf f ≡ plateOf g) × (programRefusal f ≡ programRefusal g) × OnlyNear (plateOf f) (levelData f) (levelData g) z
+  program-near = (
+    ap pictureOf (same-says .plate),
+    same-refusal f g same-says (even s ∙ ap length same-rest),
+    only-near (plateOf f) (levelData f) (levelData g) z
+        (subst (λ (d : List ℕ). SameOutside (blocksOf (plateOf f)) (levelData f) d z) same-rest (other-blocks s (blocksOf (plateOf f)))),
+  )
+
+pub local-files : LocalFiles
+local-files = record { ktx = ktx-near; program = program-near }

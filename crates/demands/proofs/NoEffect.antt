@@ -31,23 +31,27 @@ use Rattle.convert.proofs.Whole.{answered-same}
 use Rattle.demands.proofs.Later as later
 use Rattle.demands.specs.NoEffect.{SameButFlags, SameProgram, NoEffect, NoEffectKtx, NothingElse, LaterUnread}
 
--- two files that say the same and have the same data
-module _ (f g : List ℕ) (says : SameSays (saysOf f) (saysOf g)) (same-data : levelData f ≡ levelData g) where
-  pub same-refusal : programRefusal f ≡ programRefusal g
-  same-refusal =
-      header-first f
-      ∙ ap₂ (λ (h n : ℕ). cond (eqb h 0) n h) (says .number) (own-same (says .plate) (ap length same-data))
-      ∙ sym (header-first g)
+-- two files that say the same, and whose data has the same length, are refused alike
+pub same-refusal : (f g : List ℕ) → SameSays (saysOf f) (saysOf g) → length (levelData f) ≡ length (levelData g) → programRefusal f ≡ programRefusal g
+same-refusal f g says even =
+    header-first f
+    ∙ ap₂ (λ (h n : ℕ). cond (eqb h 0) n h) (says .number) (own-same (says .plate) even)
+    ∙ sym (header-first g)
 
-  pub same-plate : plateOf f ≡ plateOf g
+-- where the data is the same too, all that the program does is
+module _ (f g : List ℕ) (says : SameSays (saysOf f) (saysOf g)) (same-data : levelData f ≡ levelData g) where
+  same-number : programRefusal f ≡ programRefusal g
+  same-number = same-refusal f g says (ap length same-data)
+
+  same-plate : plateOf f ≡ plateOf g
   same-plate = ap pictureOf (says .plate)
 
-  pub same-output : output f ≡ output g
+  same-output : output f ≡ output g
   same-output =
-      ap (λ (n : ℕ). written n (plateOf f) (levelData f)) same-refusal ∙ ap₂ (written (programRefusal g)) same-plate same-data
+      ap (λ (n : ℕ). written n (plateOf f) (levelData f)) same-number ∙ ap₂ (written (programRefusal g)) same-plate same-data
 
   same-laid : {image image' out out' : List ℕ} {r : ℕ} → Converted f image image' out out' r → Converted g image image' out out' r
-  same-laid = answered-same same-refusal same-plate same-data
+  same-laid = answered-same same-number same-plate same-data
 
 turned : {s t : Says} → SameSays s t → SameSays t s
 turned a = record { number = sym (a .number); plate = sym (a .plate) }
@@ -128,7 +132,7 @@ module _ {f g : List ℕ} (s : SameButIgnored f g) where
 -- what C is told of a picture, where the header and the data are the same
 same-wrote : {f g old new : List ℕ} {n : ℕ} → KtxHeader f g → ktx-picture.levelData f ≡ ktx-picture.levelData g → WroteKtx f old new n → WroteKtx g old new n
 same-wrote {old = old} h d a =
-    let e = ktx.same-refusal h d (length old) in
+    let e = ktx.same-refusal h (ap length d) (length old) in
     record { number = a .number ∙ e; words = a .words ∙ ktx.words-alike old e (ktx.same-picture h) d }
 
 pub nothing-else : NothingElse

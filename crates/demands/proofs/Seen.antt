@@ -15,6 +15,7 @@ use Rattle.pvrtc.specs.Calls.{refusal, TexelRead, Written, RowDecoded, BlockDec
 use Rattle.pvrtc.specs.Picture.{pictureTexel}
 use Rattle.pvrtc.specs.declared.Call.{Call}
 use Rattle.pvrtc.specs.declared.Call.the-variants as call
+use Rattle.pvrtc.specs.declared.Decoded.{Decoded}
 use Rattle.pvrtc.specs.declared.Decoded.the-variants.{Done}
 use Rattle.pvrtc.specs.declared.Picture.{Picture}
 use Rattle.pvrtc.specs.declared.Texel.the-variants.{Word}
@@ -43,7 +44,7 @@ pub of-wrote : {n : ℕ} {done old new : List ℕ} → Wrote n done old new 0 �
 of-wrote w = record { number = w .number; words = w .words }
 
 -- the picture and the data of a call may be replaced by equal ones
-moved-block : {p q : Picture} {d e old new : List ℕ} → p ≡ q → d ≡ e → BlockDecoded p d old new Done → BlockDecoded q e old new Done
+pub moved-block : {p q : Picture} {d e old new : List ℕ} {r : Decoded} → p ≡ q → d ≡ e → BlockDecoded p d old new r → BlockDecoded q e old new r
 moved-block ep ed b = rw (← ep, ← ed) b
 
 module _ (p : Picture) (d : List ℕ) (x y v : ℕ) where

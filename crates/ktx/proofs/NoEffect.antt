@@ -136,20 +136,18 @@ module _ {f g : List ℕ} (s : SameHeader f g) where
   pub same-picture : plateOf f ≡ plateOf g
   same-picture = rw (same-width, same-height, same-depth) refl
 
-  -- and with the same data, the picture
-  module _ (same-data : levelData f ≡ levelData g) where
-    pub same-refusal : (room : ℕ) → pictureRefusal f room ≡ pictureRefusal g room
-    same-refusal room =
-        first-append (headerChecks f) _ tt
-        ∙ ap₂ (λ (n m : ℕ). cond (eqb n 0) m n) same-number (sized-alike room same-picture same-word (ap length same-data))
-        ∙ sym (first-append (headerChecks g) _ tt)
+  -- its picture's refusals, where the data has the same length
+  pub same-refusal : length (levelData f) ≡ length (levelData g) → (room : ℕ) → pictureRefusal f room ≡ pictureRefusal g room
+  same-refusal even room =
+      first-append (headerChecks f) _ tt
+      ∙ ap₂ (λ (n m : ℕ). cond (eqb n 0) m n) same-number (sized-alike room same-picture same-word even)
+      ∙ sym (first-append (headerChecks g) _ tt)
 
-    pub same-decoded : {old new : List ℕ} {r : Decoded} → KtxDecoded f old new r → KtxDecoded g old new r
-    same-decoded {old} a =
-        record {
-          number = a .number ∙ same-refusal (length old);
-          words = a .words ∙ words-alike old (same-refusal (length old)) same-picture same-data;
-        }
+  -- and where the data is the same, its picture
+  pub same-decoded : levelData f ≡ levelData g → {old new : List ℕ} {r : Decoded} → KtxDecoded f old new r → KtxDecoded g old new r
+  same-decoded same-data {old} a =
+      let e = same-refusal (ap length same-data) (length old) in
+      record { number = a .number ∙ e; words = a .words ∙ words-alike old e same-picture same-data }
 
 pub header-turned : {f g : List ℕ} → SameHeader f g → SameHeader g f
 header-turned {f} {g} s =
