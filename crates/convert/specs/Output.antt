@@ -90,13 +90,8 @@ otherSize s = not (fitsSize (s .size) (need (pictureOf s)))
 -- and says no size.
 abbrev pub limitChecks : Stored → List Check
 limitChecks s =
-    check (longSkipped s) 21
-    ∷ check (s .cut) 37
-    ∷ check (zeroSide (pictureOf s)) 1
-    ∷ check (longSide (pictureOf s)) 22
-    ∷ check (largeNeed (pictureOf s)) 23
-    ∷ check (otherSize s) 36
-    ∷ []
+    let p = pictureOf s in
+    check (longSkipped s) 21 ∷ check (s .cut) 37 ∷ check (zeroSide p) 1 ∷ check (longSide p) 22 ∷ check (largeNeed p) 23 ∷ check (otherSize s) 36 ∷ []
 
 -- What the block call can still refuse past them: the data, and then the grid.
 abbrev pub payloadChecks : Picture → (len : ℕ) → List Check
