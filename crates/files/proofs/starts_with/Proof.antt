@@ -1,5 +1,5 @@
 -- `files::starts_with` meets its contract. The loop keeps that the first i bytes are alike; the measure is what is left of the bytes. Assumes nothing.
-use Prim.Native.Nat.{_-_, _≤_}
+use Prim.Native.Nat.{_-_}
 use native.Mathlib.Omega.{arith}
 use lib.ListN.{length}
 use Rattle.files.proofs.Starts.{Alike, too-short, alike-none, alike-more, alike-not, alike-end}
@@ -7,7 +7,7 @@ use Rattle.files.proofs.starts_with.Statement.{statement}
 use Rattle.files.proofs.starts_with.Tie as tie
 
 abbrev Inv-loop : tie.InvT-loop
-Inv-loop file bytes i₀ i-end i = (i ≤ length bytes) × Alike file bytes i
+Inv-loop file bytes i₀ i-end i = Alike file bytes i
 
 abbrev μ-loop : tie.MeasureT-loop
 μ-loop file bytes i₀ i-end i = length bytes - i
@@ -16,7 +16,7 @@ returns : tie.Need-returns Inv-loop μ-loop
 returns c = too-short _ _ (omega arith)
 
 loop-holds : tie.Need-loop-holds Inv-loop μ-loop
-loop-holds c = (omega arith, alike-none _ _)
+loop-holds c = alike-none _ _
 
 shared-slice-read-if2 : tie.Need-shared-slice-read-if2 Inv-loop μ-loop
 shared-slice-read-if2 c = omega arith
@@ -25,7 +25,7 @@ shared-slice-read-if2-2 : tie.Need-shared-slice-read-if2-2 Inv-loop μ-loop
 shared-slice-read-if2-2 c = omega arith
 
 returns-2 : tie.Need-returns-2 Inv-loop μ-loop
-returns-2 c = alike-not (c .before .before .before .before .loop .inv .1) (omega arith) (omega arith) (c .if2 .taken)
+returns-2 c = alike-not (c .before .before .before .before .loop .inv) (omega arith) (omega arith) (c .if2 .taken)
 
 add-i : tie.Need-add-i Inv-loop μ-loop
 add-i c = omega arith
@@ -34,10 +34,10 @@ loop-less : tie.Need-loop-less Inv-loop μ-loop
 loop-less c = omega arith
 
 loop-again : tie.Need-loop-again Inv-loop μ-loop
-loop-again c = (omega arith, alike-more (c .before .before .before .before .loop .inv .1) (omega arith) (omega arith) (c .if2 .left))
+loop-again c = alike-more (c .before .before .before .before .loop .inv) (omega arith) (omega arith) (c .if2 .left)
 
 returns-3 : tie.Need-returns-3 Inv-loop μ-loop
-returns-3 c = alike-end (c .before .loop .inv .1) (omega arith)
+returns-3 c = alike-end (c .before .loop .inv) (omega arith)
 
 pub starts-with-spec : {M : Type 1} → statement M
 starts-with-spec =
