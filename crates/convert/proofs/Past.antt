@@ -23,7 +23,7 @@ use Rattle.pvrtc.specs.declared.Picture.{Picture}
 use Rattle.pvrtc.specs.Calls.{refusal}
 use Rattle.pvrtc.specs.Refusals.{need, shortData}
 use Rattle.pvrtc.proofs.Past.{picture-past}
-use Rattle.convert.specs.Output.{saysOf, headerRefusal, storedIn, pictureOf, plateOf, levelData, skippedLimit, needLimit, readLimit}
+use Rattle.convert.specs.Output.{saysOf, storedIn, pictureOf, plateOf, levelData, skippedLimit, needLimit, readLimit}
 use Rattle.convert.specs.Output.{limitChecks, payloadChecks, ownChecks, programRefusal, refusedLine, written, output, EnoughRead}
 use Rattle.convert.proofs.Answers.{tga-same, written-line, written-tga}
 use Rattle.convert.proofs.Either.{as-ktx, either-before, payload-near, payload-behind}

@@ -3,7 +3,7 @@ use mathlib.Core.Path.{_≡_, refl, sym, ap, subst, _∙_}
 use mathlib.Core.Bool.{Bool, true, false}
 use mathlib.Core.List.{List}
 use mathlib.Core.Logic.{⊎-elim}
-use Prim.Native.Nat.{ℕ, _+_, _*_, _≤_, _<_}
+use Prim.Native.Nat.{ℕ, _+_, _*_, _<_}
 use native.Mathlib.Omega.{arith}
 use lib.ListN.{length, getD, drop, length-drop}
 use lib.Seq.{getD-drop}
@@ -14,7 +14,7 @@ use Rattle.files.proofs.Answers.{SameSays}
 use Rattle.files.proofs.Starts.{start-even}
 use Rattle.pvr.specs.Header as pvr
 use Rattle.pvr.proofs.NoEffect as pvr-same
-use Rattle.ktx.specs.Header.{headerSize, sizePlace, payloadOffset}
+use Rattle.ktx.specs.Header.{sizePlace, payloadOffset}
 use Rattle.ktx.specs.NoEffect.{SameHeader}
 use Rattle.ktx.specs.Picture as ktx
 use Rattle.ktx.specs.Picture.{pictureRefusal}

@@ -1,12 +1,11 @@
 -- Fields of a header that are ignored have no effect on anything that reads a file, nor has what follows level 0. Assumes nothing.
 use mathlib.Core.Path.{_≡_, refl, sym, ap, ap₂, _∙_}
-use mathlib.Core.Bool.{Bool, true, false, cond}
-use mathlib.Core.List.{List, _++_}
-use mathlib.Core.Logic.{_↔_}
-use Prim.Native.Nat.{ℕ, _+_, _≤_, _<_}
+use mathlib.Core.Bool.{true, false, cond}
+use mathlib.Core.List.{List}
+use Prim.Native.Nat.{ℕ, _≤_, _<_}
 use native.Mathlib.Omega.{arith}
 use lib.Dec.{eqb, leb, ltb}
-use lib.ListN.{length, getD, drop}
+use lib.ListN.{length, drop}
 use borrow.Author.Tests.{le-ltb, le-leb, lt-leb}
 use Rattle.files.specs.Fields.{bitsOf}
 use Rattle.files.specs.Reading.{Says}
@@ -22,14 +21,14 @@ use Rattle.ktx.specs.Picture as ktx-picture
 use Rattle.ktx.proofs.NoEffect as ktx
 use Rattle.capi.specs.Ktx.{ktxField, WroteKtx}
 use Rattle.capi.specs.Plate.{sizedField, fieldOf, headerField}
-use Rattle.convert.specs.Output.{ktxBytes, isKtx, saysOf, storedIn, pictureOf, plateOf, levelData, programRefusal, written, output, Converted}
+use Rattle.convert.specs.Output.{ktxBytes, isKtx, saysOf, pictureOf, plateOf, levelData, programRefusal, written, output, Converted}
 use Rattle.convert.proofs.Either.{as-ktx, as-pvr}
 use Rattle.convert.proofs.Limits.{own-same}
 use Rattle.convert.proofs.Past as past
 use Rattle.convert.proofs.Said.{header-first}
 use Rattle.convert.proofs.Whole.{answered-same}
 use Rattle.demands.proofs.Later as later
-use Rattle.demands.specs.NoEffect.{SameButFlags, SameProgram, NoEffect, NoEffectKtx, NothingElse, LaterUnread}
+use Rattle.demands.specs.NoEffect.{SameButFlags, SameProgram, NothingElse, LaterUnread}
 
 -- two files that say the same, and whose data has the same length, are refused alike
 pub same-refusal : (f g : List ℕ) → SameSays (saysOf f) (saysOf g) → length (levelData f) ≡ length (levelData g) → programRefusal f ≡ programRefusal g

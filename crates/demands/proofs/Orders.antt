@@ -1,6 +1,6 @@
 -- The orders in which a file is refused are those of documents 01 and 02. Assumes nothing.
 use mathlib.Core.Path.{_≡_, refl, sym, ap, _∙_}
-use mathlib.Core.List.{List, [], _∷_, _++_}
+use mathlib.Core.List.{List, _∷_, _++_}
 use Prim.Native.Nat.{ℕ}
 use lib.ListN.{length, drop}
 use Rattle.facts.specs.Checks.{Check, check, firstOf}

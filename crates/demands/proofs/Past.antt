@@ -17,7 +17,6 @@ use Rattle.pvrtc.specs.declared.Call.{Call}
 use Rattle.pvrtc.specs.declared.Call.the-variants as call
 use Rattle.pvrtc.specs.declared.Decoded.{Decoded}
 use Rattle.pvrtc.specs.declared.Picture.{Picture}
-use Rattle.pvrtc.specs.declared.Texel.{Texel}
 use Rattle.pvrtc.proofs.Past.{refusal-past, picture-past}
 use Rattle.demands.specs.Total.{PastUnread, NothingPast, SameInC}
 

@@ -1,14 +1,13 @@
 -- A KTX plate decodes as the same payload does from PVR. Assumes nothing.
-use mathlib.Core.Path.{_≡_, refl, sym, ap, ap₂, subst, _∙_}
+use mathlib.Core.Path.{_≡_, refl, sym, ap, subst, _∙_}
 use mathlib.Core.Bool.{Bool, true, false, not}
 use mathlib.Core.List.{List, [], _∷_, _++_}
-use mathlib.Core.Logic.{_↔_}
 use Prim.Native.Nat.{ℕ, _*_, _/_, _%_, _≤_, _<_}
 use native.Mathlib.Omega.{arith}
 use lib.Dec.{eqb}
 use lib.ListN.{length, getD, take, drop, take-append-drop}
 use lib.Seq.{ext-getD, getD-take, length-take-le}
-use borrow.Author.Tests.{eqb-true, eqb-false, eq-eqb, ltb-false, le-ltb}
+use borrow.Author.Tests.{eqb-true, eqb-false, eq-eqb, le-ltb}
 use Rattle.facts.specs.Checks.{Check, check, firstOf}
 use Rattle.facts.proofs.Checks.{none-said, first-append}
 use Rattle.files.specs.Reading.{Says}
@@ -17,9 +16,7 @@ use Rattle.pvr.specs.Header as pvr
 use Rattle.pvr.specs.Reading.{pvrSays}
 use Rattle.ktx.specs.Header as ktx
 use Rattle.ktx.specs.Reading.{ktxSays}
-use Rattle.ktx.specs.Inner.{calledAs}
 use Rattle.ktx.specs.Picture as ktx-picture
-use Rattle.ktx.specs.Picture.{KtxDecoded}
 use Rattle.ktx.proofs.Whole.{as-block, of-block}
 use Rattle.pvrtc.specs.Calls.{refusal, BlockDecoded}
 use Rattle.pvrtc.specs.Picture.{pictureTexel}

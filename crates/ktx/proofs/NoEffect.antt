@@ -22,7 +22,7 @@ use Rattle.ktx.specs.declared.Decoded.{Decoded}
 use Rattle.ktx.specs.declared.Header.{Header}
 use Rattle.ktx.specs.Header.{headerSize, identifier, internalFormat, widthField, heightField, keyValueBytes, sizePlace, sizeWord, payloadOffset, hasTwoBits, isTwo}
 use Rattle.ktx.specs.Header.{shortHeader, notKtx, otherByteOrder, unknownFormat, notOnePlate, cutShort, fieldChecks, headerChecks, headerRefusal, HeaderRead}
-use Rattle.ktx.specs.NoEffect.{isIgnored, isKeyValue, SameButIgnored, SameFields, SameHeader}
+use Rattle.ktx.specs.NoEffect.{isIgnored, SameButIgnored, SameFields, SameHeader}
 use Rattle.ktx.specs.Picture.{plateOf, levelData, sizedChecks, pictureRefusal, KtxDecoded}
 use Rattle.ktx.specs.Reading.{ktxPlate, ktxSays}
 

@@ -11,7 +11,7 @@ use Rattle.facts.specs.Checks.{firstOf, condition}
 use Rattle.facts.proofs.Checks.{none-said, said-first, said-later}
 use Rattle.facts.proofs.Order.{holds-here}
 use Rattle.pvrtc.specs.Calls.{refusal, BlockDecoded}
-use Rattle.pvrtc.specs.Refusals.{need, zeroSide, largeSide, outside, sizeChecks, checks, Says}
+use Rattle.pvrtc.specs.Refusals.{need, largeSide, outside, sizeChecks, checks, Says}
 use Rattle.pvrtc.specs.Refusals as call
 use Rattle.pvrtc.specs.declared.Call.the-variants.{Block}
 use Rattle.pvrtc.specs.declared.Decoded.{Decoded as Called}

@@ -2,7 +2,7 @@
 use mathlib.Core.Path.{_≡_, refl, sym, ap, _∙_}
 use mathlib.Core.Bool.{Bool, true, false, cond, not, true≢false}
 use mathlib.Core.List.{List}
-use Prim.Native.Nat.{ℕ, _-_, _<_, _≤_}
+use Prim.Native.Nat.{ℕ, _-_, _≤_}
 use native.Mathlib.Omega.{arith}
 use lib.Dec.{eqb}
 use lib.ListN.{length, take, drop, length-drop}
@@ -23,7 +23,7 @@ use Rattle.ktx.specs.declared.Header.the-variants.{Plate, Refused}
 use Rattle.ktx.specs.declared.HeaderRefusal.{HeaderRefusal}
 use Rattle.ktx.specs.Header.{sizeWord, payloadOffset, headerChecks, headerRefusal, numberOf, headerNumber, HeaderRead}
 use Rattle.ktx.specs.Inner.{calledAs, SizedDecoded}
-use Rattle.ktx.specs.Picture.{plateOf, levelData, sizedChecks, pictureRefusal, decodedNumber, KtxDecoded}
+use Rattle.ktx.specs.Picture.{plateOf, levelData, sizedChecks, pictureRefusal, KtxDecoded}
 use Rattle.ktx.proofs.Answers.{PlateRead, of-plate, number-above}
 use Rattle.ktx.proofs.Sized.{same-number, call-speaks}
 
