@@ -19,7 +19,8 @@ module _ (file : List ℕ) (field : ℕ) {r : Header} (p : HeaderRead file r) wh
   pub field-of-refused : {f : HeaderRefusal} {n v : ℕ} → r ≡ Refused f → n ≡ numberOf f → v ≡ cond (eqb field 0) n 0 → v ≡ ktxField file field
   field-of-refused {f} e q = of-refused _ field (q ∙ sym (ap headerNumber e) ∙ p .number) (omega (arith, number-above f))
 
-  pub field-of-plate : (w h at size : ℕ) (two : Bool) {v : ℕ} → r ≡ Plate w h two at size → v ≡ sizedField w h (bitsOf two) at size field → v ≡ ktxField file field
+  pub field-of-plate : (w h at size : ℕ) (two : Bool) {v : ℕ} → r ≡ Plate w h two at size → v ≡ sizedField w h (bitsOf two) at size field
+      → v ≡ ktxField file field
   field-of-plate w h at size two e q =
       let read : PlateRead file w h two at size = of-plate (rw e at p) in
       let same = rw (read .width, read .height, read .depth, read .payload, read .said) at q in

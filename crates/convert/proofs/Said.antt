@@ -10,7 +10,8 @@ use lib.ListN.{length, take}
 use borrow.Author.Tests.{eqb-true, eqb-false}
 use Rattle.facts.specs.Checks.{firstOf, Given}
 use Rattle.facts.proofs.Checks.{first-append, exactly-when}
-use Rattle.convert.specs.Output.{saysOf, headerRefusal, storedIn, plateOf, levelData, limitChecks, payloadChecks, ownChecks, programChecks, programRefusal, refusedText, refusedLine, tga, output, Converted}
+use Rattle.convert.specs.Output.{saysOf, headerRefusal, storedIn, plateOf, levelData, refusedText, refusedLine, tga, output, Converted}
+use Rattle.convert.specs.Output.{limitChecks, payloadChecks, ownChecks, programChecks, programRefusal}
 use Rattle.convert.proofs.Answers.{written-line, written-tga}
 use Rattle.convert.proofs.Either.{all-numbered}
 use Rattle.convert.proofs.Front.{length-laid, in-front}

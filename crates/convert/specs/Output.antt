@@ -1,4 +1,5 @@
--- What `plate` writes for a file, as document 01 says it ("The program and its two published layouts") and document 02 (W1). Assumes nothing: these are definitions.
+-- What `plate` writes for a file, as document 01 says it ("The program and its two published layouts") and document 02 (W1).
+-- Assumes nothing: these are definitions.
 -- `file` is the list of the file's bytes.
 use mathlib.Core.Path.{_≡_}
 use mathlib.Core.Bool.{Bool, true, false, cond, not, _&&_, _||_}

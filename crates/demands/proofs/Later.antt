@@ -17,6 +17,7 @@ use Rattle.pvrtc.specs.Calls.{refusal}
 use Rattle.pvrtc.specs.Picture.{sheetOf, pictureTexel}
 use Rattle.pvrtc.specs.Refusals.{need, shortData}
 use Rattle.pvrtc.specs.declared.Call.the-variants.{Block}
+use Rattle.pvrtc.specs.declared.Picture.{Picture}
 use Rattle.pvrtc.proofs.Past.{picture-past}
 use Rattle.ktx.specs.Header.{sizeWord, payloadOffset, headerChecks}
 use Rattle.ktx.specs.NoEffect.{SameHeader}
@@ -27,23 +28,29 @@ use Rattle.ktx.proofs.Whole.{call-decides, header-accepted, size-fits}
 use Rattle.demands.proofs.Past.{chosen}
 
 module _ (file more : List ℕ) (enough : payloadOffset file + need (plateOf file) ≤ length file) where
+  abbrev p : Picture
+  p = plateOf file
+
+  abbrev d : List ℕ
+  d = levelData file
+
   header : SameHeader (file ++ more) file
   header = header-before file more (omega arith)
 
-  has : need (plateOf file) ≤ length (levelData file)
+  has : need p ≤ length d
   has = omega (arith, length-drop (payloadOffset file) file)
 
-  data-more : levelData (file ++ more) ≡ levelData file ++ more
+  data-more : levelData (file ++ more) ≡ d ++ more
   data-more =
       ap (λ (n : ℕ). drop n (file ++ more)) (same-payload header) ∙ drop-append-le (payloadOffset file) file more (omega arith)
 
   -- longer data is not short either
-  sized-past : (room : ℕ) → firstOf (sizedChecks (plateOf file) (sizeWord file) (length (levelData file ++ more)) room)
-      ≡ firstOf (sizedChecks (plateOf file) (sizeWord file) (length (levelData file)) room)
+  sized-past : (room : ℕ) → firstOf (sizedChecks p (sizeWord file) (length (d ++ more)) room)
+      ≡ firstOf (sizedChecks p (sizeWord file) (length d) room)
   sized-past room =
-      let d = levelData file in
-      let long : shortData (plateOf file) (length (d ++ more)) ≡ false = le-ltb (length (d ++ more)) (need (plateOf file)) (omega (arith, length-append d more, has)) in
-      let same : shortData (plateOf file) (length d) ≡ false = le-ltb (length d) (need (plateOf file)) has in
+      let longer : need p ≤ length (d ++ more) = omega (arith, length-append d more, has) in
+      let long : shortData p (length (d ++ more)) ≡ false = le-ltb (length (d ++ more)) (need p) longer in
+      let same : shortData p (length d) ≡ false = le-ltb (length d) (need p) has in
       rw (long, same) refl
 
   number : (room : ℕ) → pictureRefusal (file ++ more) room ≡ pictureRefusal file room
@@ -54,19 +61,19 @@ module _ (file more : List ℕ) (enough : payloadOffset file + need (plateOf fil
       ∙ sym (first-append (headerChecks file) _ tt)
 
   -- where the file is decoded, each texel is the same
-  texel : (room : ℕ) → pictureRefusal file room ≡ 0 → (x y : ℕ) → pictureTexel (plateOf file) (levelData file) x y ≡ pictureTexel (plateOf file) (levelData file ++ more) x y
+  texel : (room : ℕ) → pictureRefusal file room ≡ 0 → (x y : ℕ) → pictureTexel p d x y ≡ pictureTexel p (d ++ more) x y
   texel room none x y =
-      let ok : refusal (plateOf file) (Block room) (levelData file) ≡ 0 =
+      let ok : refusal p (Block room) d ≡ 0 =
       sym (call-decides file (header-accepted file room none) (size-fits file room none) room) ∙ none in
-      sym (picture-past (plateOf file) (levelData file) more has (Block room) ok x y)
+      sym (picture-past p d more has (Block room) ok x y)
 
-  words : (old : List ℕ) → cond (eqb (pictureRefusal file (length old)) 0) (onSheet (sheetOf (plateOf file)) (pictureTexel (plateOf file) (levelData file)) old) old
+  words : (old : List ℕ) → cond (eqb (pictureRefusal file (length old)) 0) (onSheet (sheetOf p) (pictureTexel p d) old) old
       ≡ cond (eqb (pictureRefusal (file ++ more) (length old)) 0)
       (onSheet (sheetOf (plateOf (file ++ more))) (pictureTexel (plateOf (file ++ more)) (levelData (file ++ more))) old) old
   words old =
-      let w : ℕ = plateOf file .width in
-      chosen (pictureRefusal file (length old)) _ (onSheet (sheetOf (plateOf file)) (pictureTexel (plateOf file) (levelData file ++ more)) old) old
-      (λ none. painted-same 0 w w (plateOf file .height) _ _ old (omega arith) (λ x y _ _. texel (length old) none x y))
+      let w : ℕ = p .width in
+      chosen (pictureRefusal file (length old)) _ (onSheet (sheetOf p) (pictureTexel p (d ++ more)) old) old
+      (λ none. painted-same 0 w w (p .height) _ _ old (omega arith) (λ x y _ _. texel (length old) none x y))
       ∙ sym (words-alike old (number (length old)) (same-picture header) data-more)
 
   pub picture-unread : (old new : List ℕ) (r : Decoded) → KtxDecoded file old new r ↔ KtxDecoded (file ++ more) old new r

@@ -140,11 +140,13 @@ module _ {f g : List ℕ} (s : SamePlate f g) where
 
   there : {old new : List ℕ} {r : Decoded} → BlockDecoded (plateOf f) (levelData f) old new r → BlockDecoded (plateOf f) (levelData g) old new r
   there b =
-      from-front (plateOf f) (levelData g) (s .ktx-data) (moved-block {p = plateOf f} refl same-fronts (to-front (plateOf f) (levelData f) (s .pvr-data) b))
+      from-front (plateOf f) (levelData g) (s .ktx-data)
+      (moved-block {p = plateOf f} refl same-fronts (to-front (plateOf f) (levelData f) (s .pvr-data) b))
 
   back : {old new : List ℕ} {r : Decoded} → BlockDecoded (plateOf f) (levelData g) old new r → BlockDecoded (plateOf f) (levelData f) old new r
   back b =
-      from-front (plateOf f) (levelData f) (s .pvr-data) (moved-block {p = plateOf f} refl (sym same-fronts) (to-front (plateOf f) (levelData g) (s .ktx-data) b))
+      from-front (plateOf f) (levelData f) (s .pvr-data)
+      (moved-block {p = plateOf f} refl (sym same-fronts) (to-front (plateOf f) (levelData g) (s .ktx-data) b))
 
   -- where f's picture is written, each of its texels is that of g's data
   same-texel : programRefusal f ≡ 0 → (x y : ℕ) → pictureTexel (plateOf f) (levelData f) x y ≡ pictureTexel (plateOf f) (levelData g) x y

@@ -118,9 +118,12 @@ total-file file =
 
 -- a KTX file whose picture is accepted: the block call on its data is
 module _ (file : List ℕ) where
+  abbrev texels : List ℕ
+  texels = pictureTexels (plateOf file) (levelData file)
+
   ktx-front : (old : List ℕ) → pictureRefusal file (length old) ≡ 0
       → painted 0 (plateOf file .width) (plateOf file .width) (plateOf file .height) (pictureTexel (plateOf file) (levelData file)) old
-      ≡ pictureTexels (plateOf file) (levelData file) ++ drop (length (pictureTexels (plateOf file) (levelData file))) old
+      ≡ texels ++ drop (length texels) old
   ktx-front old e =
       let room = length old in
       block-front (plateOf file) (levelData file) old (sym (call-decides file (header-accepted file room e) (size-fits file room e) room) ∙ e)
@@ -130,6 +133,6 @@ module _ (file : List ℕ) where
       record {
         header = λ r read. ktx-header.refused-when read;
         c-header = exactly-when (ktx-spec.headerChecks file);
-        picture = λ old new r w. words-outcome (pictureChecks file (length old)) (pictureTexels (plateOf file) (levelData file)) _ (ktx-front old) (w .number) (w .words);
-        c-picture = λ old new n w. words-outcome (pictureChecks file (length old)) (pictureTexels (plateOf file) (levelData file)) _ (ktx-front old) (w .number) (w .words);
+        picture = λ old new r w. words-outcome (pictureChecks file (length old)) texels _ (ktx-front old) (w .number) (w .words);
+        c-picture = λ old new n w. words-outcome (pictureChecks file (length old)) texels _ (ktx-front old) (w .number) (w .words);
       }

@@ -49,7 +49,8 @@ module _ {f p : List ℕ} {i : ℕ} (a : Alike f p i) where
   alike-end h = rw (a .rest, drop-of-length-le p h)
 
 -- two files that are long enough and alike there start with the same bytes
-pub same-start : (f g p : List ℕ) → length p ≤ length f → length p ≤ length g → ((i : ℕ) → i < length p → getD f i 0 ≡ getD g i 0) → startsWith f p ≡ startsWith g p
+pub same-start : (f g p : List ℕ) → length p ≤ length f → length p ≤ length g → ((i : ℕ) → i < length p → getD f i 0 ≡ getD g i 0)
+    → startsWith f p ≡ startsWith g p
 unfolding startsWith
 same-start f g [] hf hg e = refl
 same-start [] g (b ∷ p) hf hg e = absurd (not-suc-le-zero hf)

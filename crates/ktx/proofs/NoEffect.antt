@@ -20,8 +20,10 @@ use Rattle.pvrtc.specs.Picture.{sheetOf, pictureTexel}
 use Rattle.pvrtc.specs.declared.Picture.{Picture}
 use Rattle.ktx.specs.declared.Decoded.{Decoded}
 use Rattle.ktx.specs.declared.Header.{Header}
-use Rattle.ktx.specs.Header.{headerSize, identifier, internalFormat, widthField, heightField, keyValueBytes, sizePlace, sizeWord, payloadOffset, hasTwoBits, isTwo}
-use Rattle.ktx.specs.Header.{shortHeader, notKtx, otherByteOrder, unknownFormat, notOnePlate, cutShort, fieldChecks, headerChecks, headerRefusal, HeaderRead}
+use Rattle.ktx.specs.Header.{headerSize, identifier, internalFormat, hasTwoBits, isTwo, widthField, heightField}
+use Rattle.ktx.specs.Header.{keyValueBytes, sizePlace, sizeWord, payloadOffset}
+use Rattle.ktx.specs.Header.{shortHeader, notKtx, otherByteOrder, unknownFormat, notOnePlate, cutShort}
+use Rattle.ktx.specs.Header.{fieldChecks, headerChecks, headerRefusal, HeaderRead}
 use Rattle.ktx.specs.NoEffect.{isIgnored, SameButIgnored, SameFields, SameHeader}
 use Rattle.ktx.specs.Picture.{plateOf, levelData, sizedChecks, pictureRefusal, KtxDecoded}
 use Rattle.ktx.specs.Reading.{ktxPlate, ktxSays}

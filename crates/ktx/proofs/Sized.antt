@@ -38,7 +38,8 @@ call-speaks p size len room e = simp (eq-eqb size (need p) e)
 unwritten : (p : Picture) (size : ℕ) (d old : List ℕ) (r : Decoded) → decodedNumber r ≡ firstOf (sizedChecks p size (length d) (length old))
     → 0 < decodedNumber r → SizedDecoded p size d old old r
 unwritten p size d old r e h =
-    let other : eqb (firstOf (sizedChecks p size (length d) (length old))) 0 ≡ false = ne-eqb (firstOf (sizedChecks p size (length d) (length old))) 0 (λ z. omega arith) in
+    let n : ℕ = firstOf (sizedChecks p size (length d) (length old)) in
+    let other : eqb n 0 ≡ false = ne-eqb n 0 (λ z. omega arith) in
     record { number = e; words = rw other }
 
 module _ (p : Picture) (s : Called) (says : Says s (sizeChecks p)) where

@@ -13,7 +13,8 @@ use Rattle.files.specs.Fields.{u32At}
 use Rattle.files.proofs.Answers.{SameSays}
 use Rattle.files.proofs.Fields.{field-kept}
 use Rattle.files.proofs.Starts.{same-start}
-use Rattle.pvr.specs.Header.{version, headerSize, pixelFormat, widthField, heightField, metadataSize, payloadOffset, shortHeader, notPvr, notOnePlate, headerRefusal, HeaderRead}
+use Rattle.pvr.specs.Header.{version, headerSize, pixelFormat, widthField, heightField, metadataSize, payloadOffset}
+use Rattle.pvr.specs.Header.{shortHeader, notPvr, notOnePlate, headerRefusal, HeaderRead}
 use Rattle.pvr.specs.Reading.{pvrSays}
 use Rattle.pvr.specs.NoEffect.{hasNoEffect, SameHeader}
 use Rattle.facts.proofs.Order.{holds-here}
@@ -58,7 +59,9 @@ module _ {f g : List ℕ} (s : SameHeader f g) where
   same-version e =
       let hf : headerSize ≤ length f = ltb-false _ _ e in
       let hg : headerSize ≤ length g = ltb-false _ _ (sym (s .short) ∙ e) in
-      ap not (same-start f g version (omega arith) (omega arith) (λ i h. s .bytes i (omega arith) (simp (lt-leb 4 i h, lt-leb 16 i (omega arith), lt-leb 20 i (omega arith)))))
+      ap not
+      (same-start f g version (omega arith) (omega arith)
+      (λ i h. s .bytes i (omega arith) (simp (lt-leb 4 i h, lt-leb 16 i (omega arith), lt-leb 20 i (omega arith)))))
 
   pub same-number : headerRefusal f ≡ headerRefusal g
   same-number = by (shortHeader f) refl

@@ -33,7 +33,8 @@ returns-2 : tie.Need-returns-2
 returns-2 c =
     let a = c .before .before .before .before .before .before .args in
     let v = c .before .before .header2 .given .0 in
-    field-of-plate (now (a .file)) (a .field) (c .before .before .before .before .read-header .ensures) (v .0) (v .1 .0) (v .1 .1 .1 .0) (v .1 .1 .1 .1 .0) (v .1 .1 .0)
+    field-of-plate (now (a .file)) (a .field) (c .before .before .before .before .read-header .ensures)
+    (v .0) (v .1 .0) (v .1 .1 .1 .0) (v .1 .1 .1 .1 .0) (v .1 .1 .0)
     (c .before .before .header2 .given .1) (c .sized-field .ensures)
 
 pub plate-ktx-spec : {M : Type 1} → statement M

@@ -35,9 +35,11 @@ is-unknown-format-requires c κs = search needs
 
 returns-4 : tie.Need-returns-4
 returns-4 c =
-    holds-later _ _ _ (le-ltb _ _ (c .before .before .before .before .before .before .before .if1 .left))
-    (holds-later _ _ _ (ap not (sym (c .before .before .before .before .before .starts-with .ensures)) ∙ c .before .before .before .before .if2 .left)
-    (holds-later _ _ _ (ap not (eq-eqb _ _ (sym (c .before .before .before .u32-at .ensures .0) ∙ c .before .before .if3 .left)))
+    let order = c .before .before in
+    let start = order .before .before in
+    holds-later _ _ _ (le-ltb _ _ (start .before .before .before .if1 .left))
+    (holds-later _ _ _ (ap not (sym (start .before .starts-with .ensures)) ∙ start .if2 .left)
+    (holds-later _ _ _ (ap not (eq-eqb _ _ (sym (order .before .u32-at .ensures .0) ∙ order .if3 .left)))
     (holds-here _ _ _ (sym (c .before .is-unknown-format .ensures) ∙ c .if4 .taken))))
 
 is-not-one-plate-requires : tie.Need-is-not-one-plate-requires
@@ -45,18 +47,24 @@ is-not-one-plate-requires c κs = search needs
 
 returns-5 : tie.Need-returns-5
 returns-5 c =
-    holds-later _ _ _ (le-ltb _ _ (c .before .before .before .before .before .before .before .before .before .if1 .left))
-    (holds-later _ _ _ (ap not (sym (c .before .before .before .before .before .before .before .starts-with .ensures)) ∙ c .before .before .before .before .before .before .if2 .left)
-    (holds-later _ _ _ (ap not (eq-eqb _ _ (sym (c .before .before .before .before .before .u32-at .ensures .0) ∙ c .before .before .before .before .if3 .left)))
-    (holds-later _ _ _ (sym (c .before .before .before .is-unknown-format .ensures) ∙ c .before .before .if4 .left)
+    let format = c .before .before in
+    let order = format .before .before in
+    let start = order .before .before in
+    holds-later _ _ _ (le-ltb _ _ (start .before .before .before .if1 .left))
+    (holds-later _ _ _ (ap not (sym (start .before .starts-with .ensures)) ∙ start .if2 .left)
+    (holds-later _ _ _ (ap not (eq-eqb _ _ (sym (order .before .u32-at .ensures .0) ∙ order .if3 .left)))
+    (holds-later _ _ _ (sym (format .before .is-unknown-format .ensures) ∙ format .if4 .left)
     (holds-here _ _ _ (sym (c .before .is-not-one-plate .ensures) ∙ c .if5 .taken)))))
 
 returns-6 : tie.Need-returns-6
 returns-6 c =
-    holds-later _ _ _ (le-ltb _ _ (c .before .before .before .before .before .before .before .before .before .if1 .left))
-    (holds-later _ _ _ (ap not (sym (c .before .before .before .before .before .before .before .starts-with .ensures)) ∙ c .before .before .before .before .before .before .if2 .left)
-    (holds-later _ _ _ (ap not (eq-eqb _ _ (sym (c .before .before .before .before .before .u32-at .ensures .0) ∙ c .before .before .before .before .if3 .left)))
-    (holds-later _ _ _ (sym (c .before .before .before .is-unknown-format .ensures) ∙ c .before .before .if4 .left)
+    let format = c .before .before in
+    let order = format .before .before in
+    let start = order .before .before in
+    holds-later _ _ _ (le-ltb _ _ (start .before .before .before .if1 .left))
+    (holds-later _ _ _ (ap not (sym (start .before .starts-with .ensures)) ∙ start .if2 .left)
+    (holds-later _ _ _ (ap not (eq-eqb _ _ (sym (order .before .u32-at .ensures .0) ∙ order .if3 .left)))
+    (holds-later _ _ _ (sym (format .before .is-unknown-format .ensures) ∙ format .if4 .left)
     (holds-later _ _ _ (sym (c .before .is-not-one-plate .ensures) ∙ c .if5 .left) none-left))))
 
 pub check-fields-spec : {M : Type 1} → statement M

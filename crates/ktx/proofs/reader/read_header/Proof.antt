@@ -28,7 +28,8 @@ returns-2 : tie.Need-returns-2
 returns-2 c =
     let k = c .before in
     let file = now (k .before .before .before .before .before .args .file) in
-    by-cut file (k .before .before .before .check-fields .ensures) (k .before .enum-told .given .1) (sym (ap (λ (s : Stored). s .cut) (k .stored-plate .ensures)) ∙ c .if1 .taken)
+    by-cut file (k .before .before .before .check-fields .ensures) (k .before .enum-told .given .1)
+    (sym (ap (λ (s : Stored). s .cut) (k .stored-plate .ensures)) ∙ c .if1 .taken)
 
 size-word-requires : tie.Need-size-word-requires
 size-word-requires c κs = search needs

@@ -27,8 +27,8 @@ returns c =
 
 returns-2 : tie.Need-returns-2
 returns-2 c =
-    plate-shown (now (c .before .before .before .before .before .args .file)) (c .before .before .before .check-fields .ensures) (c .before .enum-told .given .1)
-    (c .stored-plate .ensures)
+    let file = now (c .before .before .before .before .before .args .file) in
+    plate-shown file (c .before .before .before .check-fields .ensures) (c .before .enum-told .given .1) (c .stored-plate .ensures)
 
 pub read-plate-spec : {M : Type 1} → statement M
 read-plate-spec =
