@@ -1,4 +1,4 @@
--- What follows level 0 of a KTX file has no effect on its picture. Assumes nothing.
+-- What follows level 0 of a KTX file has no effect on its picture, nor on what C is told of it. Assumes nothing.
 use mathlib.Core.Path.{_≡_, refl, sym, ap, ap₂, _∙_}
 use mathlib.Core.Bool.{false, cond}
 use mathlib.Core.List.{List, _++_}
@@ -25,6 +25,7 @@ use Rattle.ktx.specs.Picture.{plateOf, levelData, sizedChecks, pictureRefusal, 
 use Rattle.ktx.specs.declared.Decoded.{Decoded}
 use Rattle.ktx.proofs.NoEffect.{header-before, same-number, same-picture, same-word, same-payload, sized-alike, words-alike}
 use Rattle.ktx.proofs.Whole.{call-decides, header-accepted, size-fits}
+use Rattle.capi.specs.Ktx.{WroteKtx}
 use Rattle.demands.proofs.Past.{chosen}
 
 module _ (file more : List ℕ) (enough : payloadOffset file + need (plateOf file) ≤ length file) where
@@ -81,4 +82,11 @@ module _ (file more : List ℕ) (enough : payloadOffset file + need (plateOf fil
       let n = number (length old) in (
         λ a. record { number = a .number ∙ sym n; words = a .words ∙ words old },
         λ a. record { number = a .number ∙ n; words = a .words ∙ sym (words old) },
+      )
+
+  pub c-unread : (old new : List ℕ) (n : ℕ) → WroteKtx file old new n ↔ WroteKtx (file ++ more) old new n
+  c-unread old new n =
+      let e = number (length old) in (
+        λ a. record { number = a .number ∙ sym e; words = a .words ∙ words old },
+        λ a. record { number = a .number ∙ e; words = a .words ∙ sym (words old) },
       )

@@ -1,5 +1,5 @@
 -- Demand 3 over every call: for each picture whose sizes are accepted. Assumes nothing.
-use mathlib.Core.Path.{_≡_, refl, sym, ap, _∙_}
+use mathlib.Core.Path.{_≡_, refl, sym, ap, ap₂, _∙_}
 use mathlib.Core.Bool.{Bool, true, false, not, false≢true}
 use mathlib.Core.List.{List, List·Memᴰ, Memᴰ·cast}
 use Prim.Native.Nat.{ℕ, _*_, _/_, _%_, _≤_, _<_}
@@ -8,6 +8,7 @@ use native.Mathlib.Omega.{arith}
 use lib.Dec.{eqb}
 use lib.ListN.{length, getD}
 use borrow.Author.Tests.{le-ltb, eq-eqb, ne-eqb}
+use Rattle.facts.specs.Count.{count}
 use Rattle.facts.proofs.Count.{count-same, count-le}
 use Rattle.grid.specs.Grid.{half, blockWidth}
 use Rattle.grid.proofs.Counts.{wide}
@@ -23,12 +24,16 @@ use Rattle.pvrtc.proofs.Accepted.{accepted, passed, power-across, power-down}
 use Rattle.pvrtc.proofs.Agree.{word-is}
 use Rattle.demands.specs.Footprint.{isIn, SameOutside}
 use Rattle.demands.specs.Local.{Told, Local}
-use Rattle.demands.specs.LocalCalls.{blocksOf, footprintOf, touchedBy, changed, Shown, LocalCalls, LocalPictures}
+use Rattle.demands.specs.LocalCalls.{blocksOf, footprintOf, touchedBy, changed, mostTouched, Shown, LocalCalls, LocalPictures}
 use Rattle.demands.proofs.Counted.{is-in, in-is, touched-at-most, touched-at-least}
 use Rattle.demands.proofs.Damage.{rectangle-size}
 use Rattle.demands.proofs.Local.{covers, local}
 use Rattle.demands.proofs.Member.{in-footprint}
 use Rattle.demands.proofs.Seen.{seen}
+
+-- whether texel k of a picture, in row order, differs between two runs
+abbrev pub texelsDiffer : Picture → (d d' : List ℕ) → ℕ → Bool
+texelsDiffer p d d' k = let w = p .width in not (eqb (pictureTexel p d (k % w) (k / w)) (pictureTexel p d' (k % w) (k / w)))
 
 module _ (p : Picture) (sides : zeroSide p ≡ false) (small : largeSide p ≡ false) (powers : notPower p ≡ false) where
   abbrev two : Bool
@@ -46,26 +51,29 @@ module _ (p : Picture) (sides : zeroSide p ≡ false) (small : largeSide p ≡ f
   abbrev drawn : ℕ → ℕ → Bool
   drawn z k = isIn z (footprintOf p (k % p .width) (k / p .width))
 
-  -- so a word that changes has z in its footprint
-  no-more : (z : ℕ) (d d' old new old' new' : List ℕ) → SameOutside (blocksOf p) d d' z
-      → BlockDecoded p d old new Done → BlockDecoded p d' old' new' Done → changed p new new' ≤ touchedBy p z
-  no-more z d d' old new old' new' same a b = count-le _ _ (p .width * p .height) has
+  -- so a texel that changes has z in its footprint
+  texels-near : (z : ℕ) (d d' : List ℕ) → SameOutside (blocksOf p) d d' z → count (texelsDiffer p d d') (p .width * p .height) ≤ touchedBy p z
+  texels-near z d d' same = count-le _ _ (p .width * p .height) has
     where
-      has : (k : ℕ) → k < p .width * p .height → not (eqb (getD new k 0) (getD new' k 0)) ≡ true → drawn z k ≡ true
-      has k l e = by (isIn z (footprintOf p x y)) refl
+      has : (k : ℕ) → k < p .width * p .height → texelsDiffer p d d' k ≡ true → drawn z k ≡ true
+      has k l e = by (drawn z k) refl
         where
-          x : ℕ
-          x = k % p .width
-
-          y : ℕ
-          y = k / p .width
-
-          by : (t : Bool) → isIn z (footprintOf p x y) ≡ t → isIn z (footprintOf p x y) ≡ true
+          by : (t : Bool) → drawn z k ≡ t → drawn z k ≡ true
           by true q = q
           by false q =
-              let equal : getD new k 0 ≡ getD new' k 0 =
-              word-is p d a k l ∙ unchanged d d' z x y same (λ m. false≢true (sym q ∙ in-is z _ m)) ∙ sym (word-is p d' b k l) in
+              let equal = unchanged d d' z (k % p .width) (k / p .width) same (λ m. false≢true (sym q ∙ in-is z _ m)) in
               absurd (false≢true (sym (ap not (eq-eqb _ _ equal)) ∙ e))
+
+  -- and so has a word that does
+  no-more : (z : ℕ) (d d' old new old' new' : List ℕ) → SameOutside (blocksOf p) d d' z
+      → BlockDecoded p d old new Done → BlockDecoded p d' old' new' Done → changed p new new' ≤ touchedBy p z
+  no-more z d d' old new old' new' same a b =
+      let words : changed p new new' ≡ count (texelsDiffer p d d') (p .width * p .height) =
+      count-same _ _ (p .width * p .height) (λ k l. ap₂ (λ (v w : ℕ). not (eqb v w)) (word-is p d a k l) (word-is p d' b k l)) in
+      omega (arith, words, texels-near z d d' same)
+
+  at-most : (z : ℕ) → touchedBy p z ≤ mostTouched two
+  at-most z = omega (arith, touched-at-most here z, rectangle-size two)
 
   shown : (z : ℕ) → z < blocksOf p → Shown p z
   shown z lz =
@@ -121,7 +129,7 @@ module _ (p : Picture) (sides : zeroSide p ≡ false) (small : largeSide p ≡ f
             let s = seen p d x y v a in
             here .only z d d' same x y (s .across) (s .down) (λ e. differ (s .is ∙ e ∙ sym (seen p d' x y w b .is)));
         no-more = no-more;
-        at-most = λ z. omega (arith, touched-at-most here z, rectangle-size two);
+        at-most = at-most;
         exactly = λ whole z lz. omega (arith, touched-at-most here z, touched-at-least here z whole lz, rectangle-size two);
       }
 
@@ -129,3 +137,11 @@ pub local-pictures : LocalPictures
 local-pictures p c d e =
     let ok = accepted p c (length d) e in
     local-calls p (ok .sides) (ok .small) (ok .powers)
+
+-- and of two runs that differ in block z alone, no more texels differ than 49 at 4bpp, 105 at 2bpp
+pub few-differ : (p : Picture) (c : Call) (d d' : List ℕ) (z : ℕ) → refusal p c d ≡ 0 → SameOutside (blocksOf p) d d' z
+    → count (texelsDiffer p d d') (p .width * p .height) ≤ mostTouched (p .is2bpp)
+few-differ p c d d' z e same =
+    let ok = accepted p c (length d) e in
+    let near = texels-near p (ok .sides) (ok .small) (ok .powers) z d d' same in
+    omega (arith, near, at-most p (ok .sides) (ok .small) (ok .powers) z)

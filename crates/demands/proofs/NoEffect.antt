@@ -160,5 +160,9 @@ pub later-unread : LaterUnread
 later-unread =
     record {
       program = past.later-unread;
+      ktx-header = λ file more h r.
+          let same = ktx.header-before file more h in
+          (ktx.no-effect (ktx.header-turned same), ktx.no-effect same);
       ktx-picture = later.picture-unread;
+      c-picture = later.c-unread;
     }

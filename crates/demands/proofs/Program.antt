@@ -71,14 +71,18 @@ module _ (w h : ℕ) (word : ℕ → ℕ) (k : ℕ) (l : k < w * h) where
       let start : getD (tgaOf w h word) (18 + 4 * k) 0 ≡ byteOf (word k) 0 = ap (λ (n : ℕ). getD (tgaOf w h word) n 0) first ∙ byte-at 0 (omega arith) in
       rw (start, byte-at 1 (omega arith), byte-at 2 (omega arith), byte-at 3 (omega arith)) (four-bytes (word k) low)
 
--- so texel (x, y) of a picture
+-- so word k of a picture's TGA, and texel (x, y)
+pub tga-word : (p : Picture) (d : List ℕ) (k : ℕ) → k < p .width * p .height
+    → u32At (tga p d) (18 + 4 * k) ≡ pictureTexel p d (k % p .width) (k / p .width)
+tga-word p d k l =
+    let w : ℕ = p .width in
+    let g = gridOf p in
+    let words : ℕ → ℕ → List ℕ = λ i j. drop (8 * blockAddress (g .across) (g .down) i j) d in
+    word-at w (p .height) (λ k. pictureTexel p d (k % w) (k / w)) k l (texel-below (g .is2bpp) (g .across) (g .down) words _ _)
+
 pub tga-texel : (p : Picture) (d : List ℕ) (x y : ℕ) → x < p .width → y < p .height → u32At (tga p d) (18 + 4 * placeIn p x y) ≡ pictureTexel p d x y
 tga-texel p d x y hx hy =
     let w : ℕ = p .width in
-    let g = gridOf p in
     let row : y + 1 ≤ p .height = omega arith in
     let cut = split w (y * w + x) y x refl hx in
-    let word : ℕ → ℕ = λ k. pictureTexel p d (k % w) (k / w) in
-    let low : word (y * w + x) < 4294967296 = texel-below (g .is2bpp) (g .across) (g .down) (λ i j. drop (8 * blockAddress (g .across) (g .down) i j) d) _ _ in
-    word-at w (p .height) word (y * w + x) (omega (arith, mul-le-mul-right w row)) low
-    ∙ ap₂ (pictureTexel p d) (cut .1) (cut .0)
+    tga-word p d (y * w + x) (omega (arith, mul-le-mul-right w row)) ∙ ap₂ (pictureTexel p d) (cut .1) (cut .0)

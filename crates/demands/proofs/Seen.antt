@@ -47,6 +47,13 @@ of-wrote w = record { number = w .number; words = w .words }
 pub moved-block : {p q : Picture} {d e old new : List ℕ} {r : Decoded} → p ≡ q → d ≡ e → BlockDecoded p d old new r → BlockDecoded q e old new r
 moved-block ep ed b = rw (← ep, ← ed) b
 
+-- a decoded KTX file is the block call's picture of its data
+pub decoded-block : (file : List ℕ) {old new : List ℕ} → KtxDecoded file old new ktx-answer.Done
+    → BlockDecoded (ktx.plateOf file) (ktx.levelData file) old new Done
+decoded-block file {old} a =
+    let none = sym (a .number) in
+    as-block file (header-accepted file (length old) none) (size-fits file (length old) none) Done a
+
 module _ (p : Picture) (d : List ℕ) (x y v : ℕ) where
   -- an accepted texel call
   of-texel : refusal p (call.Texel x y) d ≡ 0 → v ≡ pictureTexel p d x y → Seen p d x y v
@@ -83,14 +90,10 @@ module _ (p : Picture) (d : List ℕ) (x y v : ℕ) where
       let value : v ≡ cond (eqb (refusal p (call.Texel x y) d) 0) (pictureTexel p d x y) 0 = omega (arith, value-back p d x y) in
       of-texel none (value ∙ rw none refl)
 
-  -- a KTX file is decoded as the block call decodes its data
   of-ktx : (file old : List ℕ) {new : List ℕ} → ktx.plateOf file ≡ p → ktx.levelData file ≡ d → KtxDecoded file old new ktx-answer.Done
       → x < p .width → y < p .height → v ≡ getD new (placeIn p x y) 0 → Seen p d x y v
-  of-ktx file old {new} ep ed w hx hy q =
-      let none = sym (w .number) in
-      let b : BlockDecoded (ktx.plateOf file) (ktx.levelData file) old new Done =
-      as-block file (header-accepted file (length old) none) (size-fits file (length old) none) Done w in
-      of-block (moved-block ep ed b) hx hy q
+  of-ktx file old ep ed w hx hy q =
+      of-block (moved-block ep ed (decoded-block file w)) hx hy q
 
   of-program : (file : List ℕ) → plateOf file ≡ p → levelData file ≡ d → programRefusal file ≡ 0 → x < p .width → y < p .height
       → v ≡ u32At (output file) (18 + 4 * placeIn p x y) → Seen p d x y v

@@ -50,8 +50,13 @@ pub record NothingElse : Type 0 where
   pub pvr : (f g : List ℕ) → SameButFlags f g → NoEffect f g
   pub ktx : (f g : List ℕ) → SameButIgnored f g → NoEffectKtx f g
 
--- Level 0 has 8n bytes; later bytes are unread. A file that has these bytes has its output whatever follows, and its picture as a KTX file.
+-- Level 0 has 8n bytes; later bytes are unread. A file that has these bytes has its output whatever follows, and, read as KTX, its header's answer and
+-- its picture, in C too.
 pub record LaterUnread : Type 0 where
   pub program : (file more : List ℕ) → storedIn file .payload + need (plateOf file) ≤ length file → output (file ++ more) ≡ output file
+  pub ktx-header : (file more : List ℕ) → payloadOffset file ≤ length file
+      → (r : KtxHeader) → KtxHeaderRead file r ↔ KtxHeaderRead (file ++ more) r
   pub ktx-picture : (file more : List ℕ) → payloadOffset file + need (ktx.plateOf file) ≤ length file
       → (old new : List ℕ) (r : KtxAnswer) → KtxDecoded file old new r ↔ KtxDecoded (file ++ more) old new r
+  pub c-picture : (file more : List ℕ) → payloadOffset file + need (ktx.plateOf file) ≤ length file
+      → (old new : List ℕ) (n : ℕ) → WroteKtx file old new n ↔ WroteKtx (file ++ more) old new n
