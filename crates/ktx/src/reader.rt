@@ -67,7 +67,7 @@ fn is_pvrtc(format: u32) -> bool
     is_4bpp(format) || is_2bpp(format)
 }
 
-// Whether the fields say that the texels are not PVRTC's.
+// Whether the fields say that the texels are not PVRTC's: the type at 16, the format at 24, the internal format at 28.
 fn is_unknown_format(file: &[u8]) -> bool
     ensures { λ r. ⌜ r ≡ unknownFormat (now (file .entry)) ⌝ }
 {
@@ -80,7 +80,7 @@ fn is_unknown_format(file: &[u8]) -> bool
     !is_pvrtc(files::u32_at(file, 28))
 }
 
-// Whether a field says that the file holds something else than one plate.
+// Whether a field says that the file holds something else than one plate: the depth at 44, array elements at 48, faces at 52.
 fn is_not_one_plate(file: &[u8]) -> bool
     ensures { λ r. ⌜ r ≡ notOnePlate (now (file .entry)) ⌝ }
 {
@@ -115,7 +115,7 @@ fn check_fields(file: &[u8]) -> Fields
     Fields::Fine
 }
 
-// The size word, which follows the key/value bytes.
+// The size word, which follows the key/value bytes; how many these are stands at 60.
 fn size_word(file: &[u8]) -> u32
     ensures { λ r. ⌜ (r ≡ sizeWord (now (file .entry))) × (r < 4294967296) ⌝ }
 {
@@ -123,7 +123,7 @@ fn size_word(file: &[u8]) -> u32
     files::u32_at(file, 64 + skipped)
 }
 
-// The plate that the fields describe, and the size word.
+// The plate that the fields describe: the internal format at 28, the width at 36, the height at 40, key/value bytes at 60.
 fn stored_plate(file: &[u8]) -> Stored
     ensures { λ r. ⌜ r ≡ ktxPlate (now (file .entry)) ⌝ }
 {

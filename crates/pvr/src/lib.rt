@@ -41,7 +41,7 @@ pub fn header_refusal_number(f: HeaderRefusal) -> u64
     }
 }
 
-// Whether a field of a header says that the file holds something else than one plate.
+// Whether a field says that the file holds something else than one plate: the depth at 32, surfaces at 36, faces at 40, levels at 44.
 fn is_not_one_plate(file: &[u8]) -> bool
     ensures { λ r. ⌜ r ≡ notOnePlate (now (file .entry)) ⌝ }
 {
