@@ -11,6 +11,8 @@ extern "C" {
     pub fn plate_row(data: *const u8, len: usize, width: u64, height: u64, depth: u32, y: u64, row: *mut u32, room: usize) -> u64;
     pub fn plate_picture(data: *const u8, len: usize, width: u64, height: u64, depth: u32, image: *mut u32, room: usize) -> u64;
     pub fn plate_header(file: *const u8, len: usize, field: u32) -> u64;
+    pub fn plate_ktx(file: *const u8, len: usize, field: u32) -> u64;
+    pub fn plate_ktx_picture(file: *const u8, len: usize, image: *mut u32, room: usize) -> u64;
     pub fn plate_convert(file: *const u8, len: usize, image: *mut u32, room: usize, out: *mut u8, size: usize) -> u64;
 }
 

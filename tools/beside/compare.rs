@@ -1,14 +1,15 @@
 // Compares the calls of include/plate.h with the Rust original: refusals, texels, and the lent words that were not to be written.
 //
 // Our calls are lent memory that ends where a page may not be touched, with words before it that must stay. A picture is decoded by both;
-// its rows, or one row if it is large, and a texel of each are then asked for by the other calls. Where the original is no oracle
-// (document 01's domain), the answer is held to document 01's table of refusals.
+// its rows, or one row if it is large, and a texel of each are then asked for by the other calls, and then the same data is read as a KTX
+// file. Where the original is no oracle (document 01's domain), the answer is held to document 01's table of refusals.
 
 extern crate color;
 
 mod both;
 mod families;
 mod guarded;
+mod ktx;
 
 use both::{original, plate_convert, plate_header, plate_picture, plate_row, plate_texel};
 use guarded::Guarded;
@@ -26,6 +27,21 @@ const OUT: usize = 524306;
 // What a lent word holds before a call: no texel is likely to be it.
 fn old_word(i: usize) -> u32 {
     (i as u32).wrapping_mul(0x9e37_79b9) ^ 0x5a5a_5a5a
+}
+
+// Lent words before a call, the ones before them that must stay among them.
+fn fill_old(lent: &mut [u32]) {
+    (0..lent.len()).for_each(|i| lent[i] = old_word(i.wrapping_sub(BEFORE)));
+}
+
+// Whether the words before the lent ones stay.
+fn before_stays(lent: &[u32]) -> bool {
+    (0..BEFORE).all(|i| lent[i] == old_word(i.wrapping_sub(BEFORE)))
+}
+
+// The first number of an order whose condition holds, or 0.
+fn first(order: &[u64], faulty: impl Fn(u64) -> bool) -> u64 {
+    order.iter().copied().find(|number| faulty(*number)).unwrap_or(0)
 }
 
 // A picture's size and depth.
@@ -47,22 +63,24 @@ impl Shape {
         8 * across * down
     }
 
+    // Whether a number's condition holds, of the documents' and of the program's, with so many bytes of data and lent words.
+    fn faulty(self, number: u64, len: usize, room: usize) -> bool {
+        let (across, down) = self.blocks();
+        match number {
+            1 => self.width == 0 || self.height == 0,
+            2 => self.width > 65536 || self.height > 65536,
+            22 => self.width > 1024 || self.height > 1024,
+            23 => self.need() > 32768,
+            3 => len < self.need(),
+            4 => room < self.width * self.height,
+            5 => !across.is_power_of_two() || !down.is_power_of_two(),
+            _ => panic!("a picture has no condition {number}"),
+        }
+    }
+
     // Document 01's number for a call that writes a picture.
     fn refusal(self, len: usize, room: usize) -> u64 {
-        let (across, down) = self.blocks();
-        if self.width == 0 || self.height == 0 {
-            1
-        } else if self.width > 65536 || self.height > 65536 {
-            2
-        } else if len < self.need() {
-            3
-        } else if room < self.width * self.height {
-            4
-        } else if !across.is_power_of_two() || !down.is_power_of_two() {
-            5
-        } else {
-            0
-        }
+        first(&[1, 2, 3, 4, 5], |number| self.faulty(number, len, room))
     }
 
     // Whether the original is the oracle.
@@ -82,9 +100,12 @@ pub struct Comparison {
     pub texels: u64,
     pub refused: u64,
     pub by_original: u64,
+    ktx: ktx::Counts,
     smallest: Option<(usize, String)>,
     differences: u64,
     pub state: u64,
+    // What is drawn around the data of KTX files, apart, so that the pictures do not depend on it.
+    around: u64,
 }
 
 impl Comparison {
@@ -100,6 +121,13 @@ impl Comparison {
         }
     }
 
+    // Bytes laid in lent memory.
+    fn lay(&mut self, bytes: &[u8]) -> *const u8 {
+        let lent = self.data.bytes(bytes.len());
+        lent.copy_from_slice(bytes);
+        lent.as_ptr()
+    }
+
     // What the original answers and leaves in `theirs`, as document 01's number.
     fn original(&mut self, data: &[u8], s: Shape) -> u64 {
         self.by_original += 1;
@@ -112,24 +140,27 @@ impl Comparison {
         }
     }
 
-    // One picture of `data`, into `room` lent words, with its rows and some of its texels.
+    // One picture of `data`, into `room` lent words, by the calls that take data, and as a KTX file.
     pub fn picture(&mut self, data: &[u8], s: Shape, room: usize) {
+        self.decoded(data, s, room);
+        self.wrapped(data, s, room);
+    }
+
+    // One picture of `data`, into `room` lent words, with its rows and some of its texels. What the lent words must hold is left in `theirs`.
+    fn decoded(&mut self, data: &[u8], s: Shape, room: usize) {
         self.cases += 1;
         self.theirs.clear();
         self.theirs.extend((0..room).map(old_word));
         let expected = if s.in_domain(data.len()) { self.original(data, s) } else { s.refusal(data.len(), room) };
         assert_eq!(expected, s.refusal(data.len(), room), "document 01's table and the original disagree");
 
+        let (at, w, h, depth) = (self.lay(data), s.width as u64, s.height as u64, s.is2bpp as u32);
         let lent = self.image.words(BEFORE + room);
-        (0..BEFORE + room).for_each(|i| lent[i] = old_word(i.wrapping_sub(BEFORE)));
-        let lent_data = self.data.bytes(data.len());
-        lent_data.copy_from_slice(data);
-        let (at, w, h, depth) = (lent_data.as_ptr(), s.width as u64, s.height as u64, s.is2bpp as u32);
+        fill_old(lent);
         let answer = unsafe { plate_picture(at, data.len(), w, h, depth, lent[BEFORE..].as_mut_ptr(), room) };
 
         let what = |call: &str| format!("{call}: {} x {}, {} bits, {} bytes, {room} words", w, h, if s.is2bpp { 2 } else { 4 }, data.len());
-        let before_stays = (0..BEFORE).all(|i| lent[i] == old_word(i.wrapping_sub(BEFORE)));
-        if answer != expected || !before_stays || lent[BEFORE..] != self.theirs[..] {
+        if answer != expected || !before_stays(lent) || lent[BEFORE..] != self.theirs[..] {
             self.differs(data.len() + room, what(&format!("picture answers {answer}, expected {expected}")));
         }
         if expected == 0 {
@@ -151,9 +182,9 @@ impl Comparison {
         let (x, more) = (self.draw() as usize % s.width, self.draw() as usize % 3);
         let room = s.width + more;
         let lent = self.row.words(BEFORE + room);
-        (0..BEFORE + room).for_each(|i| lent[i] = old_word(i.wrapping_sub(BEFORE)));
+        fill_old(lent);
         let answer = unsafe { plate_row(at, len, w, h, depth, y as u64, lent[BEFORE..].as_mut_ptr(), room) };
-        let rest_stays = (0..BEFORE).chain(BEFORE + s.width..BEFORE + room).all(|i| lent[i] == old_word(i.wrapping_sub(BEFORE)));
+        let rest_stays = before_stays(lent) && (s.width..room).all(|i| lent[BEFORE + i] == old_word(i));
         let right = lent[BEFORE..][..s.width] == self.theirs[y * s.width..][..s.width];
         let texel = unsafe { plate_texel(at, len, w, h, depth, x as u64, y as u64) };
         let same = texel == self.theirs[y * s.width + x] as u64;
@@ -166,19 +197,10 @@ impl Comparison {
         self.texels += w + 1;
     }
 
-    // What the program must write for a file with these fields of its header: the picture by the original, or the line of a refusal.
-    fn expected_output(&mut self, fields: &[u64], data: &[u8]) -> Vec<u8> {
-        let s = Shape { width: fields[1] as usize, height: fields[2] as usize, is2bpp: fields[3] == 2 };
-        let refused = match fields[0] {
-            0 if fields[4] - 52 > 4096 => 21,
-            0 if s.width == 0 || s.height == 0 => 1,
-            0 if s.width > 1024 || s.height > 1024 => 22,
-            0 if s.need() > 32768 => 23,
-            0 => s.refusal(data.len(), WORDS),
-            n => n,
-        };
+    // What the program must write for a plate that it refuses with this number, or not: the line of the refusal, or the picture by the original.
+    fn expected_output(&mut self, refused: u64, s: Shape, data: &[u8]) -> Vec<u8> {
         if refused != 0 {
-            return format!("refused {refused}\n").into_bytes();
+            return line(refused);
         }
         self.theirs.clear();
         self.theirs.resize(s.width * s.height, 0);
@@ -190,24 +212,23 @@ impl Comparison {
     }
 
     // The program's function on a file, which stands in lent memory already: what it writes, and some bytes after, which must stay.
-    fn converted(&mut self, at: *const u8, file: &[u8], fields: &[u64], data: &[u8]) {
-        let expected = self.expected_output(fields, data);
+    fn converted(&mut self, at: *const u8, file: &[u8], expected: &[u8]) {
         let looked_at = (expected.len() + 256).min(OUT);
         let (image, out) = (self.image.words(WORDS), self.out.bytes(OUT));
         out[..looked_at].fill(0xa5);
         let n = unsafe { plate_convert(at, file.len(), image.as_mut_ptr(), WORDS, out.as_mut_ptr(), OUT) } as usize;
         let stays = out[expected.len()..looked_at].iter().all(|b| *b == 0xa5);
         let none = unsafe { plate_convert(at, file.len(), image.as_mut_ptr(), WORDS, out.as_mut_ptr(), OUT - 1) };
-        if n != expected.len() || out[..n.min(OUT)] != expected || !stays || none != 0 {
-            self.differs(file.len(), format!("convert answers {n}, expected {} for {file:02x?}", expected.len()));
+        if n != expected.len() || out[..n.min(OUT)] != *expected || !stays || none != 0 {
+            let begin = |bytes: &[u8]| String::from_utf8_lossy(&bytes[..bytes.len().min(11)]).into_owned();
+            let (ours, right) = (begin(&out[..n.min(OUT)]), begin(expected));
+            self.differs(file.len(), format!("convert answers {n}, {ours:?}, expected {}, {right:?} for {}", expected.len(), bytes(file)));
         }
     }
 
     // A damaged file by its header, by the program's function, then its picture if that is small: every answer has a known number.
     pub fn file(&mut self, file: &[u8]) {
-        let lent = self.data.bytes(file.len());
-        lent.copy_from_slice(file);
-        let at = lent.as_ptr();
+        let at = self.lay(file);
         let field = |n: u32| unsafe { plate_header(at, file.len(), n) };
         let fields: Vec<u64> = (0..6).map(field).collect();
         let known = if fields[0] == 0 {
@@ -216,11 +237,17 @@ impl Comparison {
             (11..=14).contains(&fields[0]) && fields[1..5] == [0; 4]
         };
         if !known || fields[5] != 0 {
-            self.differs(file.len(), format!("header answers {fields:?} for {file:02x?}"));
+            self.differs(file.len(), format!("header answers {fields:?} for {}", bytes(file)));
         }
         let shape = Shape { width: fields[1] as usize, height: fields[2] as usize, is2bpp: fields[3] == 2 };
         let data = file.get(fields[4] as usize..).unwrap_or(&[]);
-        self.converted(at, file, &fields, data);
+        let refused = match fields[0] {
+            0 if fields[4] - 52 > 4096 => 21,
+            0 => first(&[1, 22, 23, 3, 5], |number| shape.faulty(number, data.len(), WORDS)),
+            number => number,
+        };
+        let expected = self.expected_output(refused, shape, data);
+        self.converted(at, file, &expected);
         if fields[0] != 0 {
             self.cases += 1;
             self.refused += 1;
@@ -230,6 +257,16 @@ impl Comparison {
             self.picture(data, shape, room);
         }
     }
+}
+
+// What the program writes for a refusal.
+fn line(refused: u64) -> Vec<u8> {
+    format!("refused {refused}\n").into_bytes()
+}
+
+// A file's bytes, or the first of them, to be told.
+fn bytes(file: &[u8]) -> String {
+    format!("{} bytes, {:02x?}", file.len(), &file[..file.len().min(512)])
 }
 
 // Inputs off the original's domain: what it does there, and what ours answers. docs/DIFFERENCES.md says why.
@@ -260,6 +297,20 @@ fn off_the_domain() {
     println!();
 }
 
+// What is counted, as the table's columns.
+const COUNTED: [&str; 7] = ["cases", "answered by the original", "refused", "texels compared", "KTX files", "refused", "texels compared"];
+
+impl Comparison {
+    fn counts(&self) -> [u64; COUNTED.len()] {
+        [self.cases, self.by_original, self.refused, self.texels, self.ktx.files, self.ktx.refused, self.ktx.texels]
+    }
+}
+
+fn print_row(name: &str, counts: impl Iterator<Item = u64>, since: std::time::Instant) {
+    let cells: Vec<String> = counts.map(|count| count.to_string()).collect();
+    println!("| {name} | {} | {:.1} |", cells.join(" | "), since.elapsed().as_secs_f64());
+}
+
 fn main() {
     off_the_domain();
     let largest: usize = std::env::args().nth(1).and_then(|n| n.parse().ok()).expect("the side of the largest picture");
@@ -274,21 +325,23 @@ fn main() {
         texels: 0,
         refused: 0,
         by_original: 0,
+        ktx: ktx::Counts::default(),
         smallest: None,
         differences: 0,
         state: 0x2545_f491_4f6c_dd1d,
+        around: 0x9e37_79b9_7f4a_7c15,
     };
-    println!("| family | cases | answered by the original | refused | texels compared | seconds |");
-    println!("|---|---|---|---|---|---|");
+    println!("| family | {} | seconds |", COUNTED.join(" | "));
+    println!("|---|{}---|", "---|".repeat(COUNTED.len()));
     let start = std::time::Instant::now();
     for (name, family) in families::ALL {
         eprintln!("compare: {name}");
-        let (cases, texels, refused, asked, since) = (c.cases, c.texels, c.refused, c.by_original, std::time::Instant::now());
+        let (before, since) = (c.counts(), std::time::Instant::now());
         family(&mut c, largest);
-        let seconds = since.elapsed().as_secs_f64();
-        println!("| {name} | {} | {} | {} | {} | {seconds:.1} |", c.cases - cases, c.by_original - asked, c.refused - refused, c.texels - texels);
+        print_row(name, c.counts().iter().zip(before).map(|(after, before)| after - before), since);
     }
-    println!("| all | {} | {} | {} | {} | {:.1} |", c.cases, c.by_original, c.refused, c.texels, start.elapsed().as_secs_f64());
+    print_row("all", c.counts().into_iter(), start);
+    c.ktx.print();
     match c.smallest {
         None => println!("no difference"),
         Some((_, what)) => {

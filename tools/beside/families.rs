@@ -1,8 +1,9 @@
 // The families of inputs that are compared.
 
+use crate::ktx::{Reading, Wrap};
 use crate::{Comparison, Shape};
 
-pub const ALL: [(&str, fn(&mut Comparison, usize)); 9] = [
+pub const ALL: [(&str, fn(&mut Comparison, usize)); 10] = [
     ("sizes 1 to 40 by 1 to 40", small_sizes),
     ("grids to 64 by 64 blocks, clipped", grids),
     ("data about 4n and 8n bytes, words about width x height", lengths),
@@ -10,7 +11,8 @@ pub const ALL: [(&str, fn(&mut Comparison, usize)); 9] = [
     ("every weight mode, structured words", modes),
     ("thin pictures to a side of 65,536", thin),
     ("sides that are refused", sides),
-    ("a million damaged files", damaged_files),
+    ("a million damaged PVR files", damaged_files),
+    ("half a million damaged KTX files", damaged_ktx_files),
     ("the largest picture", largest_picture),
 ];
 
@@ -132,6 +134,18 @@ fn sides(c: &mut Comparison, _: usize) {
     }
 }
 
+// Changes up to four bytes of a file, among the first so many.
+fn damage(c: &mut Comparison, file: &mut [u8], among: usize) {
+    for _ in 0..c.draw() % 5 {
+        let at = c.draw() as usize % among.min(file.len());
+        file[at] = if c.draw() % 2 == 0 { c.draw() as u8 } else { file[at] ^ 1 << (c.draw() % 8) };
+    }
+}
+
+fn cut(c: &mut Comparison, file: &mut Vec<u8>) {
+    file.truncate(c.draw() as usize % (file.len() + 1));
+}
+
 // Files of a small plate with up to four bytes changed, cut short in places.
 fn damaged_files(c: &mut Comparison, _: usize) {
     for turn in 0..1_000_000 {
@@ -147,14 +161,59 @@ fn damaged_files(c: &mut Comparison, _: usize) {
         file.extend(std::iter::repeat(0x6d).take(metadata as usize));
         let kind = drawn as usize >> 16;
         file.extend(words(c, kind, s.need() / 8));
-        for _ in 0..c.draw() % 5 {
-            let at = c.draw() as usize % if turn % 2 == 0 { 52 } else { file.len() };
-            file[at] = if c.draw() % 2 == 0 { c.draw() as u8 } else { file[at] ^ 1 << (c.draw() % 8) };
-        }
+        damage(c, &mut file, if turn % 2 == 0 { 52 } else { usize::MAX });
         if c.draw() % 8 == 0 {
-            file.truncate(c.draw() as usize % (file.len() + 1));
+            cut(c, &mut file);
         }
         c.file(&file);
+    }
+}
+
+// Where a KTX file's header has a field, and what may be set there. The sides stand twice, so that both are large often enough.
+const SET: [(usize, &[u32]); 13] = [
+    (4, &[0xbb30_3220]),
+    (12, &[0x0102_0304, 0]),
+    (16, &[1, 0x1401]),
+    (24, &[1, 0x1908]),
+    (28, &[0x8bff, 0x8c00, 0x8c01, 0x8c02, 0x8c03, 0x8c04, 0x8d64]),
+    (36, &[0, 1, 24, 1000, 1024, 1025, 65536, 65537, !0]),
+    (40, &[0, 1, 24, 1000, 1024, 1025, 65536, 65537, !0]),
+    (36, &[512, 1000, 1024]),
+    (40, &[512, 1000, 1024]),
+    (44, &[1]),
+    (48, &[1]),
+    (52, &[0, 6]),
+    (60, &[0, 1, 4096, 4097, !0 - 67, !0]),
+];
+
+// Sets up to two fields of a KTX file, and in half the files the size word to the need that is then said.
+fn set_fields(c: &mut Comparison, file: &mut [u8]) {
+    for _ in 0..c.draw() % 3 {
+        let (at, values) = SET[c.draw() as usize % SET.len()];
+        let value = values[c.draw() as usize % values.len()];
+        file[at..at + 4].copy_from_slice(&value.to_le_bytes());
+    }
+    let (at, need) = (Reading(file).payload() - 4, Reading(file).shape().need() as u32);
+    if at + 4 <= file.len() && c.draw() % 2 == 0 {
+        file[at..at + 4].copy_from_slice(&need.to_le_bytes());
+    }
+}
+
+// KTX files of a small plate with fields set in one of four, up to four bytes changed, one in four cut short.
+fn damaged_ktx_files(c: &mut Comparison, _: usize) {
+    for turn in 0..500_000 {
+        let drawn = c.draw() as usize;
+        let s = Shape { width: 1 + (drawn >> 1) % 16, height: 1 + (drawn >> 5) % 16, is2bpp: drawn & 1 == 1 };
+        let data = words(c, drawn >> 16, s.need() / 8);
+        let mut file = Wrap::drawn(&mut c.state, s, data.len()).ktx(s, &data);
+        if drawn >> 9 & 3 == 0 {
+            set_fields(c, &mut file);
+        }
+        damage(c, &mut file, if turn % 2 == 0 { 68 } else { usize::MAX });
+        if drawn >> 11 & 3 == 0 {
+            cut(c, &mut file);
+        }
+        c.ktx_file(&file);
     }
 }
 
