@@ -3,6 +3,8 @@
 // could promise.
 mod tables;
 
+ghost use lib.ListN.{length};
+ghost use Rattle.convert.specs.Output.{Room};
 use ktx::Header;
 
 // What is chosen of a file, where it ends, and how many words are lent for its picture.
@@ -18,16 +20,11 @@ struct Case {
 
 fn main() {
     let mut bytes = [0u8; 66000];
-    print_files(&mut bytes);
-}
-
-fn print_files(bytes: &mut [u8]) {
-    print_cuts(bytes);
-    print_fields(&tables::FIELDS, bytes);
-    print_turned(bytes);
-    print_cases(b"case", &tables::CASES, bytes);
-    print_cases(b"tiny", &tables::TINY, bytes);
-    print_faults(bytes);
+    print_cuts(&mut bytes);
+    print_places(&mut bytes);
+    print_turned(&mut bytes);
+    print_listed(&mut bytes);
+    print_faults(&mut bytes);
 }
 
 // The first bytes of a plain file: every cut of the header, of the key/value bytes, of the size word and of the data.
@@ -43,7 +40,26 @@ fn print_cut(bytes: &mut [u8], len: usize) {
     print_answers(bytes, len, 8200);
 }
 
-// Four bytes of a plain file with another value.
+// Four bytes of a plain file with another value. Each list is lent by a function of its own, here and below: a function that holds long lists
+// takes long to prove.
+fn print_places(bytes: &mut [u8]) {
+    print_first(bytes);
+    print_formats(bytes);
+    print_rest(bytes);
+}
+
+fn print_first(bytes: &mut [u8]) {
+    print_fields(&tables::FIRST, bytes);
+}
+
+fn print_formats(bytes: &mut [u8]) {
+    print_fields(&tables::FORMATS, bytes);
+}
+
+fn print_rest(bytes: &mut [u8]) {
+    print_fields(&tables::REST, bytes);
+}
+
 fn print_fields(listed: &[[u32; 2]], bytes: &mut [u8]) {
     for i in 0..listed.len() {
         print_field(listed[i], bytes);
@@ -68,6 +84,34 @@ fn print_turned(bytes: &mut [u8]) {
 }
 
 // The listed files.
+fn print_listed(bytes: &mut [u8]) {
+    print_format_cases(bytes);
+    print_key_value_cases(bytes);
+    print_side_cases(bytes);
+    print_room_cases(bytes);
+    print_tiny(bytes);
+}
+
+fn print_format_cases(bytes: &mut [u8]) {
+    print_cases(b"case", &tables::FORMAT_CASES, bytes);
+}
+
+fn print_key_value_cases(bytes: &mut [u8]) {
+    print_cases(b"case", &tables::KEY_VALUE_CASES, bytes);
+}
+
+fn print_side_cases(bytes: &mut [u8]) {
+    print_cases(b"case", &tables::SIDE_CASES, bytes);
+}
+
+fn print_room_cases(bytes: &mut [u8]) {
+    print_cases(b"case", &tables::ROOM_CASES, bytes);
+}
+
+fn print_tiny(bytes: &mut [u8]) {
+    print_cases(b"tiny", &tables::TINY, bytes);
+}
+
 fn print_cases(name: &[u8], listed: &[[u32; 7]], bytes: &mut [u8]) {
     for i in 0..listed.len() {
         print_case(name, case_of(listed[i]), bytes);
@@ -77,6 +121,12 @@ fn print_cases(name: &[u8], listed: &[[u32; 7]], bytes: &mut [u8]) {
 fn print_case(name: &[u8], c: Case, bytes: &mut [u8]) {
     lay(bytes, c);
     io::write_all(1, name);
+    print_chosen(c);
+    print_answers(bytes, c.end, c.room);
+}
+
+// What is chosen of a file.
+fn print_chosen(c: Case) {
     io::write_all(1, b" ");
     io::print_hex(1, c.format as u64, 4);
     print_name(b", key/values", c.key_values as u64);
@@ -85,7 +135,6 @@ fn print_case(name: &[u8], c: Case, bytes: &mut [u8]) {
     print_name(b", size", c.size as u64);
     print_name(b", end", c.end as u64);
     print_name(b", room", c.room as u64);
-    print_answers(bytes, c.end, c.room);
 }
 
 // Every two refusals at once.
@@ -260,9 +309,9 @@ fn set_plain(bytes: &mut [u8]) {
 fn turn_fields(bytes: &mut [u8]) {
     let t = tables::PLAIN;
     for i in 3..16 {
-        set_turned(bytes, 4 * (i as u32), t[i]);
+        set_u32(bytes, 4 * (i as u32), turned(t[i]));
     }
-    set_turned(bytes, 76, 32);
+    set_u32(bytes, 76, turned(32));
 }
 
 // Puts v at place i, if there is one.
@@ -281,19 +330,16 @@ fn set_u32(bytes: &mut [u8], at: u32, v: u32) {
     set_byte(bytes, i + 3, (v / 16777216 % 256) as u8);
 }
 
-// The same, big-endian.
-fn set_turned(bytes: &mut [u8], at: u32, v: u32) {
-    let i = at as usize;
-    set_byte(bytes, i, (v / 16777216 % 256) as u8);
-    set_byte(bytes, i + 1, (v / 65536 % 256) as u8);
-    set_byte(bytes, i + 2, (v / 256 % 256) as u8);
-    set_byte(bytes, i + 3, (v % 256) as u8);
+// A number whose four bytes are those of v, turned.
+fn turned(v: u32) -> u32 {
+    v % 256 * 16777216 + v / 256 % 256 * 65536 + v / 65536 % 256 * 256 + v / 16777216
 }
 
 // What the calls answer for the first `end` bytes of a file, and so many words.
 fn print_answers(bytes: &[u8], end: usize, room: usize) {
     print_header(bytes, end);
     print_decoded(bytes, end, room);
+    io::write_all(1, b"; program ");
     print_converted(bytes, end);
 }
 
@@ -347,11 +393,16 @@ fn print_lent(file: &[u8], words: &mut [u32]) {
 
 // What is written for the first `end` bytes of a file.
 fn print_converted(bytes: &[u8], end: usize) {
-    io::write_all(1, b"; program ");
     let mut image = [0u32; 131072];
     let mut out = [0u8; 524306];
     let n = facts::least(end, bytes.len());
-    let r = convert::convert(&bytes[..n], &mut image, &mut out);
+    print_written(&bytes[..n], &mut image, &mut out);
+}
+
+fn print_written(file: &[u8], image: &mut [u32], out: &mut [u8])
+    requires { ⌜ Room (length (now image)) (length (now out)) ⌝ }
+{
+    let r = convert::convert(file, image, out);
     print_output(&out[..r]);
 }
 

@@ -21,8 +21,8 @@ pub const PLAIN: [u32; 16] = [
     12,
 ];
 
-// Places of a plain file, and the values put there.
-pub const FIELDS: [[u32; 2]; 83] = [
+// Places of a plain file, and the values put there: the identifier and the byte order.
+pub const FIRST: [[u32; 2]; 22] = [
     // the identifier: each byte changed, all of it turned, and KTX 2's
     [0, 0x58544bac],
     [0, 0x58544cab],
@@ -47,6 +47,10 @@ pub const FIELDS: [[u32; 2]; 83] = [
     [12, 0x02010403],
     [12, 0x03040102],
     [12, 0],
+];
+
+// The same: the type and the formats.
+pub const FORMATS: [[u32; 2]; 26] = [
     // the type, and its size, which has no effect
     [16, 1],
     [16, 0x1401],
@@ -77,6 +81,10 @@ pub const FIELDS: [[u32; 2]; 83] = [
     [32, 0],
     [32, 0x1907],
     [32, 0xffffffff],
+];
+
+// The same: the sides, and all that is behind them.
+pub const REST: [[u32; 2]; 35] = [
     // the sides, where the size word stays: not the need, or another picture with the same need
     [36, 7],
     [36, 9],
@@ -122,7 +130,7 @@ pub const FIELDS: [[u32; 2]; 83] = [
 ];
 
 // Internal format, key/value bytes, width, height, size word, where the file ends, and how many words are lent.
-pub const CASES: [[u32; 7]; 83] = [
+pub const FORMAT_CASES: [[u32; 7]; 9] = [
     // each internal format
     [0x8bff, 12, 16, 8, 32, 66000, 8200],
     [0x8c00, 12, 8, 8, 32, 66000, 8200],
@@ -134,6 +142,10 @@ pub const CASES: [[u32; 7]; 83] = [
     [0x8c02, 12, 16, 8, 32, 66000, 8200],
     [0x8c02, 12, 16, 8, 64, 66000, 8200],
     [0x8c03, 12, 16, 8, 64, 66000, 8200],
+];
+
+// The same, for the key/value bytes.
+pub const KEY_VALUE_CASES: [[u32; 7]; 36] = [
     // few key/value bytes
     [0x8c02, 0, 8, 8, 32, 63, 8200],
     [0x8c02, 0, 8, 8, 32, 64, 8200],
@@ -173,6 +185,10 @@ pub const CASES: [[u32; 7]; 83] = [
     [0x8c02, 0xffffffc0, 8, 8, 32, 66000, 8200],
     [0x8c02, 0xfffffffc, 8, 8, 32, 66000, 8200],
     [0x8c02, 0xffffffff, 8, 8, 32, 66000, 8200],
+];
+
+// The same, for the sides.
+pub const SIDE_CASES: [[u32; 7]; 22] = [
     // no side may be 0
     [0x8c02, 12, 0, 8, 0, 66000, 8200],
     [0x8c02, 12, 8, 0, 0, 66000, 8200],
@@ -198,6 +214,10 @@ pub const CASES: [[u32; 7]; 83] = [
     [0x8c03, 12, 17, 8, 48, 66000, 8200],
     [0x8c01, 12, 32, 5, 64, 66000, 8200],
     [0x8c01, 12, 25, 7, 64, 66000, 8200],
+];
+
+// The same, for the ends of large files and the lent words.
+pub const ROOM_CASES: [[u32; 7]; 16] = [
     // the largest files that the program takes, a byte less, and larger ones that the library takes
     [0x8c02, 4096, 256, 256, 32768, 36932, 65536],
     [0x8c03, 4096, 1024, 128, 32768, 36932, 131072],
