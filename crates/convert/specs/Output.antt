@@ -25,7 +25,7 @@ use Rattle.pvrtc.specs.declared.Picture.{Picture}
 abbrev pub ktxBytes : List ℕ
 ktxBytes = 0xAB ∷ 0x4B ∷ 0x54 ∷ 0x58 ∷ []
 
--- All else is taken as PVR.
+-- Whether a file is taken as KTX. All else is taken as PVR.
 abbrev pub isKtx : List ℕ → Bool
 isKtx file = startsWith file ktxBytes
 
@@ -37,10 +37,11 @@ saysOf file = cond (isKtx file) (ktxSays file) (pvrSays file)
 abbrev pub headerRefusal : List ℕ → ℕ
 headerRefusal file = firstOf (saysOf file .refusals)
 
--- The plate that it stores, and that plate's picture.
+-- The plate that it stores.
 abbrev pub storedIn : List ℕ → Stored
 storedIn file = saysOf file .plate
 
+-- A stored plate's picture, and that of a file.
 abbrev pub pictureOf : Stored → Picture
 pictureOf s = picture (s .width) (s .height) (s .is2bpp)
 
@@ -63,7 +64,7 @@ needLimit = 32768
 abbrev pub pvrLimit : ℕ
 pvrLimit = pvr.headerSize + skippedLimit + needLimit
 
--- The bytes of a KTX file that can matter: there are a longer header and a size word.
+-- The bytes of a KTX file that can matter: the header, the most key/value bytes, the size word and the largest need.
 abbrev pub ktxLimit : ℕ
 ktxLimit = ktx.headerSize + skippedLimit + 4 + needLimit
 

@@ -45,7 +45,8 @@ fn print_cut(bytes: &mut [u8], len: usize) {
 fn print_places(bytes: &mut [u8]) {
     print_first(bytes);
     print_formats(bytes);
-    print_rest(bytes);
+    print_counts(bytes);
+    print_behind(bytes);
 }
 
 fn print_first(bytes: &mut [u8]) {
@@ -56,8 +57,12 @@ fn print_formats(bytes: &mut [u8]) {
     print_fields(&tables::FORMATS, bytes);
 }
 
-fn print_rest(bytes: &mut [u8]) {
-    print_fields(&tables::REST, bytes);
+fn print_counts(bytes: &mut [u8]) {
+    print_fields(&tables::COUNTS, bytes);
+}
+
+fn print_behind(bytes: &mut [u8]) {
+    print_fields(&tables::BEHIND, bytes);
 }
 
 fn print_fields(listed: &[[u32; 2]], bytes: &mut [u8]) {
@@ -86,8 +91,11 @@ fn print_turned(bytes: &mut [u8]) {
 // The listed files.
 fn print_listed(bytes: &mut [u8]) {
     print_format_cases(bytes);
-    print_key_value_cases(bytes);
+    print_few_key_values(bytes);
+    print_many_key_values(bytes);
+    print_wrapped_key_values(bytes);
     print_side_cases(bytes);
+    print_long_sides(bytes);
     print_room_cases(bytes);
     print_tiny(bytes);
 }
@@ -96,12 +104,24 @@ fn print_format_cases(bytes: &mut [u8]) {
     print_cases(b"case", &tables::FORMAT_CASES, bytes);
 }
 
-fn print_key_value_cases(bytes: &mut [u8]) {
-    print_cases(b"case", &tables::KEY_VALUE_CASES, bytes);
+fn print_few_key_values(bytes: &mut [u8]) {
+    print_cases(b"case", &tables::FEW_KEY_VALUES, bytes);
+}
+
+fn print_many_key_values(bytes: &mut [u8]) {
+    print_cases(b"case", &tables::MANY_KEY_VALUES, bytes);
+}
+
+fn print_wrapped_key_values(bytes: &mut [u8]) {
+    print_cases(b"case", &tables::WRAPPED_KEY_VALUES, bytes);
 }
 
 fn print_side_cases(bytes: &mut [u8]) {
     print_cases(b"case", &tables::SIDE_CASES, bytes);
+}
+
+fn print_long_sides(bytes: &mut [u8]) {
+    print_cases(b"case", &tables::LONG_SIDES, bytes);
 }
 
 fn print_room_cases(bytes: &mut [u8]) {

@@ -83,8 +83,8 @@ pub const FORMATS: [[u32; 2]; 26] = [
     [32, 0xffffffff],
 ];
 
-// The same: the sides, and all that is behind them.
-pub const REST: [[u32; 2]; 35] = [
+// The same: the sides, and what else a header counts.
+pub const COUNTS: [[u32; 2]; 18] = [
     // the sides, where the size word stays: not the need, or another picture with the same need
     [36, 7],
     [36, 9],
@@ -106,6 +106,10 @@ pub const REST: [[u32; 2]; 35] = [
     [56, 2],
     [56, 9],
     [56, 0xffffffff],
+];
+
+// The same: the key/value bytes, the size word and the data.
+pub const BEHIND: [[u32; 2]; 17] = [
     // more or fewer key/value bytes, so that others are the size word
     [60, 11],
     [60, 13],
@@ -144,9 +148,8 @@ pub const FORMAT_CASES: [[u32; 7]; 9] = [
     [0x8c03, 12, 16, 8, 64, 66000, 8200],
 ];
 
-// The same, for the key/value bytes.
-pub const KEY_VALUE_CASES: [[u32; 7]; 36] = [
-    // few key/value bytes
+// The same, for few key/value bytes.
+pub const FEW_KEY_VALUES: [[u32; 7]; 15] = [
     [0x8c02, 0, 8, 8, 32, 63, 8200],
     [0x8c02, 0, 8, 8, 32, 64, 8200],
     [0x8c02, 0, 0, 8, 0, 64, 8200],
@@ -162,7 +165,10 @@ pub const KEY_VALUE_CASES: [[u32; 7]; 36] = [
     [0x8c02, 1, 8, 8, 32, 101, 8200],
     [0x8c02, 2, 8, 8, 32, 66000, 8200],
     [0x8c02, 3, 8, 8, 32, 66000, 8200],
-    // as many as the program takes, and more
+];
+
+// The same, for as many as the program takes, and more.
+pub const MANY_KEY_VALUES: [[u32; 7]; 14] = [
     [0x8c02, 4095, 8, 8, 32, 66000, 8200],
     [0x8c02, 4096, 8, 8, 32, 64, 8200],
     [0x8c02, 4096, 8, 8, 32, 4160, 8200],
@@ -177,7 +183,10 @@ pub const KEY_VALUE_CASES: [[u32; 7]; 36] = [
     [0x8c02, 65932, 8, 8, 32, 66000, 8200],
     [0x8c02, 65933, 8, 8, 32, 66000, 8200],
     [0x8c02, 65536, 8, 8, 32, 66000, 8200],
-    // so many that a sum of 32 bits would wrap: past all, and to the front of the file
+];
+
+// The same, for so many that a sum of 32 bits would wrap: past all, and to the front of the file.
+pub const WRAPPED_KEY_VALUES: [[u32; 7]; 7] = [
     [0x8c02, 0x7fffffff, 8, 8, 32, 66000, 8200],
     [0x8c02, 0x80000000, 8, 8, 32, 66000, 8200],
     [0x8c02, 0xffffffbb, 8, 8, 32, 66000, 8200],
@@ -188,17 +197,26 @@ pub const KEY_VALUE_CASES: [[u32; 7]; 36] = [
 ];
 
 // The same, for the sides.
-pub const SIDE_CASES: [[u32; 7]; 22] = [
+pub const SIDE_CASES: [[u32; 7]; 12] = [
     // no side may be 0
     [0x8c02, 12, 0, 8, 0, 66000, 8200],
     [0x8c02, 12, 8, 0, 0, 66000, 8200],
     [0x8c02, 12, 0, 0, 0, 66000, 0],
     [0x8c02, 12, 0, 8, 32, 66000, 8200],
-    // sides at 4bpp: clipped, no power of two, long
+    // sides at 2bpp: clipped, and no power of two
+    [0x8c03, 12, 15, 8, 32, 66000, 8200],
+    [0x8c03, 12, 17, 8, 48, 66000, 8200],
+    [0x8c01, 12, 32, 5, 64, 66000, 8200],
+    [0x8c01, 12, 25, 7, 64, 66000, 8200],
+    // the same at 4bpp
     [0x8c02, 12, 5, 5, 32, 66000, 8200],
     [0x8c02, 12, 13, 8, 64, 66000, 8200],
     [0x8c02, 12, 9, 8, 48, 66000, 8200],
     [0x8c02, 12, 12, 12, 72, 66000, 8200],
+];
+
+// The same, for long sides.
+pub const LONG_SIDES: [[u32; 7]; 10] = [
     [0x8c02, 12, 1024, 8, 4096, 66000, 8192],
     [0x8c02, 12, 8, 1024, 4096, 66000, 8192],
     [0x8c02, 12, 1025, 8, 4112, 66000, 8200],
@@ -209,11 +227,6 @@ pub const SIDE_CASES: [[u32; 7]; 22] = [
     [0x8c02, 12, 8, 65537, 262160, 66000, 8200],
     [0x8c02, 12, 65536, 65536, 0x80000000, 66000, 8200],
     [0x8c02, 12, 0xffffffff, 0xffffffff, 0, 66000, 8200],
-    // sides at 2bpp
-    [0x8c03, 12, 15, 8, 32, 66000, 8200],
-    [0x8c03, 12, 17, 8, 48, 66000, 8200],
-    [0x8c01, 12, 32, 5, 64, 66000, 8200],
-    [0x8c01, 12, 25, 7, 64, 66000, 8200],
 ];
 
 // The same, for the ends of large files and the lent words.
