@@ -20,11 +20,15 @@ struct Case {
 
 fn main() {
     let mut bytes = [0u8; 66000];
-    print_cuts(&mut bytes);
-    print_places(&mut bytes);
-    print_turned(&mut bytes);
-    print_listed(&mut bytes);
-    print_faults(&mut bytes);
+    print_files(&mut bytes);
+}
+
+fn print_files(bytes: &mut [u8]) {
+    print_cuts(bytes);
+    print_places(bytes);
+    print_turned(bytes);
+    print_listed(bytes);
+    print_faults(bytes);
 }
 
 // The first bytes of a plain file: every cut of the header, of the key/value bytes, of the size word and of the data.
@@ -399,8 +403,12 @@ fn print_sides(width: usize, height: usize, is2bpp: bool) {
 // What decoding into so many words answers, of at most 131,072.
 fn print_decoded(bytes: &[u8], end: usize, room: usize) {
     let mut image = [0u32; 131072];
+    print_room(bytes, end, room, &mut image);
+}
+
+fn print_room(bytes: &[u8], end: usize, room: usize, image: &mut [u32]) {
     let n = facts::least(end, bytes.len());
-    let m = facts::least(room, 131072);
+    let m = facts::least(room, image.len());
     print_lent(&bytes[..n], &mut image[..m]);
 }
 
