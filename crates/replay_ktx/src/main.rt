@@ -95,9 +95,7 @@ fn print_turned(bytes: &mut [u8]) {
 // The listed files.
 fn print_listed(bytes: &mut [u8]) {
     print_format_cases(bytes);
-    print_few_key_values(bytes);
-    print_many_key_values(bytes);
-    print_wrapped_key_values(bytes);
+    print_key_values(bytes);
     print_side_cases(bytes);
     print_long_sides(bytes);
     print_room_cases(bytes);
@@ -108,16 +106,20 @@ fn print_format_cases(bytes: &mut [u8]) {
     print_cases(b"case", &tables::FORMAT_CASES, bytes);
 }
 
-fn print_few_key_values(bytes: &mut [u8]) {
-    print_cases(b"case", &tables::FEW_KEY_VALUES, bytes);
+fn print_key_values(bytes: &mut [u8]) {
+    print_ends(&tables::KEY_VALUES, bytes);
 }
 
-fn print_many_key_values(bytes: &mut [u8]) {
-    print_cases(b"case", &tables::MANY_KEY_VALUES, bytes);
+fn print_ends(listed: &[[u32; 2]], bytes: &mut [u8]) {
+    for i in 0..listed.len() {
+        print_end(listed[i], bytes);
+    }
 }
 
-fn print_wrapped_key_values(bytes: &mut [u8]) {
-    print_cases(b"case", &tables::WRAPPED_KEY_VALUES, bytes);
+// A plain file with other key/value bytes, cut there.
+fn print_end(row: [u32; 2], bytes: &mut [u8]) {
+    let c = make_case(0x8c02, row[0], 8, 8, 32, row[1] as usize, 8200);
+    print_case(b"case", c, bytes);
 }
 
 fn print_side_cases(bytes: &mut [u8]) {
@@ -225,30 +227,35 @@ fn plain_case() -> Case {
     make_case(0x8c02, 12, 8, 8, 32, 66000, 8200)
 }
 
-// A plain file with what two refusals are given for, as far as it is one of the chosen numbers.
+// A plain file with what two refusals are given for, as far as it is one of the chosen numbers. Where both ask a side, the first has it.
 fn faulty(first: u64, second: u64) -> Case {
-    let c = with_fault(with_fault(plain_case(), second), first);
-    let size = size_with(first, second, c.width, c.height);
-    let end = end_with(first, second, c.key_values);
-    make_case(c.format, c.key_values, c.width, c.height, size, end, c.room)
+    let width = width_with(first, width_with(second, 8));
+    let height = height_with(first, height_with(second, 8));
+    let key_values = if either(first, second, 21) { 4097 } else { 12 };
+    let room = if either(first, second, 4) { 63 } else { 8200 };
+    let size = size_with(first, second, width, height);
+    let end = end_with(first, second, key_values);
+    make_case(0x8c02, key_values, width, height, size, end, room)
 }
 
-// One that asks a side may undo another that does.
-fn with_fault(c: Case, fault: u64) -> Case {
+// The width that a refusal asks, or another.
+fn width_with(fault: u64, other: u32) -> u32 {
     match fault {
-        21 => make_case(c.format, 4097, c.width, c.height, c.size, c.end, c.room),
-        1 => with_sides(c, c.width, 0),
-        2 => with_sides(c, 65537, c.height),
-        22 => with_sides(c, 1025, c.height),
-        23 => with_sides(c, 1000, 1000),
-        4 => make_case(c.format, c.key_values, c.width, c.height, c.size, c.end, 63),
-        5 => with_sides(c, 12, 8),
-        _ => c,
+        2 => 65537,
+        22 => 1025,
+        23 => 1000,
+        5 => 12,
+        _ => other,
     }
 }
 
-fn with_sides(c: Case, width: u32, height: u32) -> Case {
-    make_case(c.format, c.key_values, width, height, c.size, c.end, c.room)
+fn height_with(fault: u64, other: u32) -> u32 {
+    match fault {
+        1 => 0,
+        23 => 1000,
+        5 => 8,
+        _ => other,
+    }
 }
 
 // Whether a fault is one of the two.

@@ -133,6 +133,48 @@ pub const BEHIND: [[u32; 2]; 17] = [
     [112, 0],
 ];
 
+// Key/value bytes, and where a plain file with so many ends.
+pub const KEY_VALUES: [[u32; 2]; 35] = [
+    // few
+    [0, 63],
+    [0, 64],
+    [0, 67],
+    [0, 68],
+    [0, 99],
+    [0, 100],
+    [0, 101],
+    [1, 65],
+    [1, 68],
+    [1, 69],
+    [1, 100],
+    [1, 101],
+    [2, 66000],
+    [3, 66000],
+    // as many as the program takes, and more
+    [4095, 66000],
+    [4096, 64],
+    [4096, 4160],
+    [4096, 4163],
+    [4096, 4164],
+    [4096, 4195],
+    [4096, 4196],
+    [4096, 66000],
+    [4097, 64],
+    [4097, 4164],
+    [4097, 66000],
+    [65932, 66000],
+    [65933, 66000],
+    [65536, 66000],
+    // so many that a sum of 32 bits would wrap: past all, and to the front of the file
+    [0x7fffffff, 66000],
+    [0x80000000, 66000],
+    [0xffffffbb, 66000],
+    [0xffffffbc, 66000],
+    [0xffffffc0, 66000],
+    [0xfffffffc, 66000],
+    [0xffffffff, 66000],
+];
+
 // Internal format, key/value bytes, width, height, size word, where the file ends, and how many words are lent.
 pub const FORMAT_CASES: [[u32; 7]; 9] = [
     // each internal format
@@ -148,57 +190,10 @@ pub const FORMAT_CASES: [[u32; 7]; 9] = [
     [0x8c03, 12, 16, 8, 64, 66000, 8200],
 ];
 
-// The same, for few key/value bytes.
-pub const FEW_KEY_VALUES: [[u32; 7]; 15] = [
-    [0x8c02, 0, 8, 8, 32, 63, 8200],
-    [0x8c02, 0, 8, 8, 32, 64, 8200],
-    [0x8c02, 0, 0, 8, 0, 64, 8200],
-    [0x8c02, 0, 8, 8, 32, 67, 8200],
-    [0x8c02, 0, 8, 8, 32, 68, 8200],
-    [0x8c02, 0, 8, 8, 32, 99, 8200],
-    [0x8c02, 0, 8, 8, 32, 100, 8200],
-    [0x8c02, 0, 8, 8, 32, 101, 8200],
-    [0x8c02, 1, 8, 8, 32, 65, 8200],
-    [0x8c02, 1, 8, 8, 32, 68, 8200],
-    [0x8c02, 1, 8, 8, 32, 69, 8200],
-    [0x8c02, 1, 8, 8, 32, 100, 8200],
-    [0x8c02, 1, 8, 8, 32, 101, 8200],
-    [0x8c02, 2, 8, 8, 32, 66000, 8200],
-    [0x8c02, 3, 8, 8, 32, 66000, 8200],
-];
-
-// The same, for as many as the program takes, and more.
-pub const MANY_KEY_VALUES: [[u32; 7]; 14] = [
-    [0x8c02, 4095, 8, 8, 32, 66000, 8200],
-    [0x8c02, 4096, 8, 8, 32, 64, 8200],
-    [0x8c02, 4096, 8, 8, 32, 4160, 8200],
-    [0x8c02, 4096, 8, 8, 32, 4163, 8200],
-    [0x8c02, 4096, 8, 8, 32, 4164, 8200],
-    [0x8c02, 4096, 8, 8, 32, 4195, 8200],
-    [0x8c02, 4096, 8, 8, 32, 4196, 8200],
-    [0x8c02, 4096, 8, 8, 32, 66000, 8200],
-    [0x8c02, 4097, 8, 8, 32, 64, 8200],
-    [0x8c02, 4097, 8, 8, 32, 4164, 8200],
-    [0x8c02, 4097, 8, 8, 32, 66000, 8200],
-    [0x8c02, 65932, 8, 8, 32, 66000, 8200],
-    [0x8c02, 65933, 8, 8, 32, 66000, 8200],
-    [0x8c02, 65536, 8, 8, 32, 66000, 8200],
-];
-
-// The same, for so many that a sum of 32 bits would wrap: past all, and to the front of the file.
-pub const WRAPPED_KEY_VALUES: [[u32; 7]; 7] = [
-    [0x8c02, 0x7fffffff, 8, 8, 32, 66000, 8200],
-    [0x8c02, 0x80000000, 8, 8, 32, 66000, 8200],
-    [0x8c02, 0xffffffbb, 8, 8, 32, 66000, 8200],
-    [0x8c02, 0xffffffbc, 8, 8, 32, 66000, 8200],
-    [0x8c02, 0xffffffc0, 8, 8, 32, 66000, 8200],
-    [0x8c02, 0xfffffffc, 8, 8, 32, 66000, 8200],
-    [0x8c02, 0xffffffff, 8, 8, 32, 66000, 8200],
-];
-
 // The same, for the sides.
-pub const SIDE_CASES: [[u32; 7]; 12] = [
-    // no side may be 0
+pub const SIDE_CASES: [[u32; 7]; 13] = [
+    // no side may be 0; of a file without a size word that is said later
+    [0x8c02, 0, 0, 8, 0, 64, 8200],
     [0x8c02, 12, 0, 8, 0, 66000, 8200],
     [0x8c02, 12, 8, 0, 0, 66000, 8200],
     [0x8c02, 12, 0, 0, 0, 66000, 0],
