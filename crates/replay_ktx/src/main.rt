@@ -77,17 +77,17 @@ fn print_fields(listed: &[[u32; 2]], bytes: &mut [u8]) {
 
 fn print_field(row: [u32; 2], bytes: &mut [u8]) {
     lay(bytes, plain_case());
-    set_u32(bytes, row[0], row[1]);
+    samples::set_u32(bytes, row[0], row[1]);
     print_name(b"place", row[0] as u64);
     io::write_all(1, b" has ");
     io::print_hex(1, row[1] as u64, 8);
     print_answers(bytes, 66000, 8200);
 }
 
-// A plain file as a big-endian machine writes it: all fields turned.
+// A plain file as a big-endian machine writes it: all fields turned, and the size word.
 fn print_turned(bytes: &mut [u8]) {
-    lay(bytes, plain_case());
-    turn_fields(bytes);
+    samples::lay_file(&tables::TURNED, bytes);
+    samples::set_u32(bytes, 76, 0x20000000);
     io::write_all(1, b"all fields turned");
     print_answers(bytes, 66000, 8200);
 }
@@ -300,70 +300,24 @@ fn end_with(first: u64, second: u64, key_values: u32) -> usize {
 // Brings in what a refusal is given for that is none of the chosen numbers.
 fn bring(bytes: &mut [u8], fault: u64) {
     match fault {
-        32 => set_u32(bytes, 4, 0xbb303220),
-        33 => set_u32(bytes, 12, 0x01020304),
-        34 => set_u32(bytes, 28, 0x8c04),
-        35 => set_u32(bytes, 52, 6),
+        32 => samples::set_u32(bytes, 4, 0xbb303220),
+        33 => samples::set_u32(bytes, 12, 0x01020304),
+        34 => samples::set_u32(bytes, 28, 0x8c04),
+        35 => samples::set_u32(bytes, 52, 6),
         _ => {}
     }
 }
 
 // Lays a plain file with what is chosen of it. Its size word is laid where there is a place for it.
 fn lay(bytes: &mut [u8], c: Case) {
-    fill_data(bytes);
-    set_plain(bytes);
-    set_u32(bytes, 28, c.format);
-    set_u32(bytes, 36, c.width);
-    set_u32(bytes, 40, c.height);
-    set_u32(bytes, 60, c.key_values);
+    samples::lay_file(&tables::PLAIN, bytes);
+    samples::set_u32(bytes, 28, c.format);
+    samples::set_u32(bytes, 36, c.width);
+    samples::set_u32(bytes, 40, c.height);
+    samples::set_u32(bytes, 60, c.key_values);
     if c.key_values < 66000 {
-        set_u32(bytes, 64 + c.key_values, c.size);
+        samples::set_u32(bytes, 64 + c.key_values, c.size);
     }
-}
-
-// Puts bytes behind the header: byte i by the rule (37i + 11) % 251.
-fn fill_data(bytes: &mut [u8]) {
-    for i in 64..66000 {
-        set_byte(bytes, i, ((37 * i + 11) % 251) as u8);
-    }
-}
-
-// The header of a plate that nothing refuses.
-fn set_plain(bytes: &mut [u8]) {
-    let t = tables::PLAIN;
-    for i in 0..16 {
-        set_u32(bytes, 4 * (i as u32), t[i]);
-    }
-}
-
-// Turns the fields of a plain file, and its size word.
-fn turn_fields(bytes: &mut [u8]) {
-    let t = tables::PLAIN;
-    for i in 3..16 {
-        set_u32(bytes, 4 * (i as u32), turned(t[i]));
-    }
-    set_u32(bytes, 76, turned(32));
-}
-
-// Puts v at place i, if there is one.
-fn set_byte(bytes: &mut [u8], i: usize, v: u8) {
-    if i < bytes.len() {
-        bytes[i] = v;
-    }
-}
-
-// Puts v at `at`, four bytes, little-endian.
-fn set_u32(bytes: &mut [u8], at: u32, v: u32) {
-    let i = at as usize;
-    set_byte(bytes, i, (v % 256) as u8);
-    set_byte(bytes, i + 1, (v / 256 % 256) as u8);
-    set_byte(bytes, i + 2, (v / 65536 % 256) as u8);
-    set_byte(bytes, i + 3, (v / 16777216 % 256) as u8);
-}
-
-// A number whose four bytes are those of v, turned.
-fn turned(v: u32) -> u32 {
-    v % 256 * 16777216 + v / 256 % 256 * 65536 + v / 65536 % 256 * 256 + v / 16777216
 }
 
 // What the calls answer for the first `end` bytes of a file, and so many words.
@@ -423,7 +377,7 @@ fn print_room(bytes: &[u8], end: usize, room: usize, image: &mut [u32]) {
 fn print_lent(file: &[u8], words: &mut [u32]) {
     let decoded = ktx::decode_ktx(file, words);
     print_name(b"; picture", ktx::decoded_number(decoded));
-    print_name(b", sum", sum_of_words(words));
+    print_name(b", sum", samples::sum_of_words(words));
 }
 
 // What is written for the first `end` bytes of a file.
@@ -448,35 +402,9 @@ fn print_output(bytes: &[u8]) {
     } else {
         io::print_decimal(1, bytes.len() as u64);
         io::write_all(1, b" bytes, sum ");
-        io::print_decimal(1, sum_of(bytes));
+        io::print_decimal(1, samples::sum_of_bytes(bytes));
         io::write_all(1, b"\n");
     }
-}
-
-// A checksum of bytes.
-fn sum_of(bytes: &[u8]) -> u64 {
-    let mut s: u64 = 0;
-    for i in 0..bytes.len() {
-        s = with_byte(s, bytes[i]);
-    }
-    s
-}
-
-fn with_byte(s: u64, byte: u8) -> u64 {
-    ((s % 2147483647) * 31 + (byte as u64)) % 2147483647
-}
-
-// A checksum of words. Its modulus is the largest prime below 2 to the 33rd, so a change of one word alone always changes it.
-fn sum_of_words(words: &[u32]) -> u64 {
-    let mut s: u64 = 0;
-    for i in 0..words.len() {
-        s = with_word(s, words[i]);
-    }
-    s
-}
-
-fn with_word(s: u64, word: u32) -> u64 {
-    (s % 8589934583 * 1103515245 + word as u64) % 8589934583
 }
 
 // A name and a number of a line.

@@ -21,6 +21,26 @@ pub const PLAIN: [u32; 16] = [
     12,
 ];
 
+// The same with all fields turned: each number's four bytes the other way round. The identifier has no order to turn.
+pub const TURNED: [u32; 16] = [
+    0x58544bab,
+    0xbb313120,
+    0x0a1a0a0d,
+    0x01020304,
+    0,
+    0x01000000,
+    0,
+    0x028c0000,
+    0x08190000,
+    0x08000000,
+    0x08000000,
+    0,
+    0,
+    0x01000000,
+    0x01000000,
+    0x0c000000,
+];
+
 // Places of a plain file, and the values put there: the identifier and the byte order.
 pub const FIRST: [[u32; 2]; 22] = [
     // the identifier: each byte changed, all of it turned, and KTX 2's

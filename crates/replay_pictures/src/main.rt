@@ -3,7 +3,6 @@
 // module, since what a function prints is nothing that it could promise.
 mod draw;
 mod sizes;
-mod sum;
 mod tables;
 
 use pvrtc::Decoded;
@@ -184,7 +183,7 @@ fn print_lent(way: Way, p: Picture, data: &[u8], words: &mut [u32], state: u64) 
     print_lengths(data.len(), words.len());
     print_number(number_of(decode(way, p, data, words)));
     io::write_all(1, b", sum");
-    print_number(sum_of(words));
+    print_number(samples::sum_of_words(words));
     io::write_all(1, b"\n");
     reached
 }
@@ -285,15 +284,4 @@ fn fill_words(words: &mut [u32], state: u64) -> u64 {
         i += 1;
     }
     reached
-}
-
-// The sum over all words, in their order.
-fn sum_of(words: &[u32]) -> u64 {
-    let mut sum = 0;
-    let mut i = 0;
-    while i < words.len() {
-        sum = sum::with_word(sum, words[i]);
-        i += 1;
-    }
-    sum
 }

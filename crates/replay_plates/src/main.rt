@@ -4,7 +4,6 @@ mod tables;
 
 fn main() {
     let mut bytes = [0u8; 40000];
-    fill_data(&mut bytes);
     print_cuts(&mut bytes);
     print_fields(&mut bytes);
     print_ends(&mut bytes);
@@ -20,7 +19,7 @@ fn print_cuts(bytes: &mut [u8]) {
 }
 
 fn print_cut(bytes: &mut [u8], len: usize) {
-    set_plain(bytes);
+    samples::lay_file(&tables::PLAIN, bytes);
     print_name(b"cut", len as u64);
     print_converted(bytes, len);
 }
@@ -34,8 +33,8 @@ fn print_fields(bytes: &mut [u8]) {
 }
 
 fn print_field(bytes: &mut [u8], at: u32, v: u32) {
-    set_plain(bytes);
-    set_u32(bytes, at, v);
+    samples::lay_file(&tables::PLAIN, bytes);
+    samples::set_u32(bytes, at, v);
     print_name(b"place", at as u64);
     print_name(b" has", v as u64);
     print_converted(bytes, 40000);
@@ -50,8 +49,8 @@ fn print_ends(bytes: &mut [u8]) {
 }
 
 fn print_end(bytes: &mut [u8], metadata: u32, end: u32) {
-    set_plain(bytes);
-    set_u32(bytes, 48, metadata);
+    samples::lay_file(&tables::PLAIN, bytes);
+    samples::set_u32(bytes, 48, metadata);
     print_name(b"metadata", metadata as u64);
     print_name(b", cut", end as u64);
     print_converted(bytes, end as usize);
@@ -66,10 +65,10 @@ fn print_sizes(bytes: &mut [u8]) {
 }
 
 fn print_size(bytes: &mut [u8], format: u32, width: u32, height: u32) {
-    set_plain(bytes);
-    set_u32(bytes, 8, format);
+    samples::lay_file(&tables::PLAIN, bytes);
+    samples::set_u32(bytes, 8, format);
     set_sides(bytes, width, height);
-    set_u32(bytes, 48, 4096);
+    samples::set_u32(bytes, 48, 4096);
     print_name(b"format", format as u64);
     print_name(b", size", width as u64);
     print_name(b" x", height as u64);
@@ -93,7 +92,7 @@ fn print_with(bytes: &mut [u8], i: usize) {
 
 // A plain file with two faults. The one that is later in the order comes in first.
 fn print_two(bytes: &mut [u8], first: u64, second: u64) {
-    set_plain(bytes);
+    samples::lay_file(&tables::PLAIN, bytes);
     bring(bytes, second);
     bring(bytes, first);
     print_name(b"faults", first);
@@ -101,51 +100,20 @@ fn print_two(bytes: &mut [u8], first: u64, second: u64) {
     print_converted(bytes, facts::least(end_of(first), end_of(second)));
 }
 
-// Puts v at place i, if there is one.
-fn set_byte(bytes: &mut [u8], i: usize, v: u8) {
-    if i < bytes.len() {
-        bytes[i] = v;
-    }
-}
-
-// Puts bytes behind the header: byte i by the rule (37i + 11) % 251.
-fn fill_data(bytes: &mut [u8]) {
-    for i in 52..40000 {
-        set_byte(bytes, i, ((37 * i + 11) % 251) as u8);
-    }
-}
-
-// Puts v at `at`, four bytes, little-endian.
-fn set_u32(bytes: &mut [u8], at: u32, v: u32) {
-    let i = at as usize;
-    set_byte(bytes, i, (v % 256) as u8);
-    set_byte(bytes, i + 1, (v / 256 % 256) as u8);
-    set_byte(bytes, i + 2, (v / 65536 % 256) as u8);
-    set_byte(bytes, i + 3, (v / 16777216 % 256) as u8);
-}
-
 fn set_sides(bytes: &mut [u8], width: u32, height: u32) {
-    set_u32(bytes, 24, height);
-    set_u32(bytes, 28, width);
-}
-
-// The header of a plate that nothing refuses.
-fn set_plain(bytes: &mut [u8]) {
-    let t = tables::PLAIN;
-    for i in 0..13 {
-        set_u32(bytes, 4 * (i as u32), t[i]);
-    }
+    samples::set_u32(bytes, 24, height);
+    samples::set_u32(bytes, 28, width);
 }
 
 // Brings in what a refusal is given for. One that asks a side may undo another that does.
 fn bring(bytes: &mut [u8], fault: u64) {
     match fault {
-        12 => set_u32(bytes, 0, 0x03525600),
-        13 => set_u32(bytes, 8, 4),
-        14 => set_u32(bytes, 32, 2),
-        21 => set_u32(bytes, 48, 4097),
-        1 => set_u32(bytes, 24, 0),
-        22 => set_u32(bytes, 28, 1025),
+        12 => samples::set_u32(bytes, 0, 0x03525600),
+        13 => samples::set_u32(bytes, 8, 4),
+        14 => samples::set_u32(bytes, 32, 2),
+        21 => samples::set_u32(bytes, 48, 4097),
+        1 => samples::set_u32(bytes, 24, 0),
+        22 => samples::set_u32(bytes, 28, 1025),
         23 => set_sides(bytes, 1000, 1000),
         5 => set_sides(bytes, 12, 8),
         _ => {}
@@ -161,19 +129,6 @@ fn end_of(fault: u64) -> usize {
     }
 }
 
-// A checksum of bytes.
-fn sum_of(bytes: &[u8]) -> u64 {
-    let mut s: u64 = 0;
-    for i in 0..bytes.len() {
-        s = with_byte(s, bytes[i]);
-    }
-    s
-}
-
-fn with_byte(s: u64, byte: u8) -> u64 {
-    ((s % 2147483647) * 31 + (byte as u64)) % 2147483647
-}
-
 // A refusal's line as it is; of a picture, how many bytes and their checksum.
 fn print_output(bytes: &[u8]) {
     if bytes.len() < 12 {
@@ -181,7 +136,7 @@ fn print_output(bytes: &[u8]) {
     } else {
         io::print_decimal(1, bytes.len() as u64);
         io::write_all(1, b" bytes, sum ");
-        io::print_decimal(1, sum_of(bytes));
+        io::print_decimal(1, samples::sum_of_bytes(bytes));
         io::write_all(1, b"\n");
     }
 }

@@ -1,0 +1,80 @@
+// What the programs of the gate make their files with, and sum up answers by.
+ghost use mathlib.Core.Path.{_≡_};
+ghost use lib.ListN.{length, getD, set};
+ghost use Rattle.facts.specs.Tab.{tab};
+ghost use Rattle.samples.specs.File.{bytesOf, fileByte, withU32};
+ghost use Rattle.samples.specs.Sums.{checksum};
+
+// Lays a sample file: the numbers of its header, four bytes each, and behind them bytes by a rule.
+pub fn lay_file(header: &[u32], bytes: &mut [u8])
+    ensures { λ _. ⌜ now (bytes .exit) ≡ tab (fileByte (now (header .entry))) (length (now (bytes .entry))) ⌝ }
+{
+    for k in 0..bytes.len() {
+        bytes[k] = file_byte(header, k);
+    }
+}
+
+fn file_byte(header: &[u32], k: usize) -> u8
+    ensures { λ r. ⌜ r ≡ fileByte (now (header .entry)) k ⌝ }
+{
+    if k / 4 < header.len() {
+        byte_of(header[k / 4], k % 4)
+    } else {
+        ((37 * (k % 251) + 11) % 251) as u8
+    }
+}
+
+// Byte k of a number of four bytes, the lowest first; it has no others.
+fn byte_of(v: u32, k: usize) -> u8
+    ensures { λ r. ⌜ r ≡ getD (bytesOf v) k 0 ⌝ }
+{
+    match k {
+        0 => (v % 256) as u8,
+        1 => (v / 256 % 256) as u8,
+        2 => (v / 65536 % 256) as u8,
+        3 => (v / 16777216 % 256) as u8,
+        _ => 0,
+    }
+}
+
+// Puts the four bytes of a number at `at`, as far as there are places for them.
+pub fn set_u32(bytes: &mut [u8], at: u32, v: u32)
+    ensures { λ _. ⌜ now (bytes .exit) ≡ withU32 at v (now (bytes .entry)) ⌝ }
+{
+    let i = at as usize;
+    set_byte(bytes, i, byte_of(v, 0));
+    set_byte(bytes, i + 1, byte_of(v, 1));
+    set_byte(bytes, i + 2, byte_of(v, 2));
+    set_byte(bytes, i + 3, byte_of(v, 3));
+}
+
+// Puts a byte at place i, if there is one.
+fn set_byte(bytes: &mut [u8], i: usize, v: u8)
+    ensures { λ _. ⌜ now (bytes .exit) ≡ set (now (bytes .entry)) i v ⌝ }
+{
+    if i < bytes.len() {
+        bytes[i] = v;
+    }
+}
+
+// The checksum of bytes.
+pub fn sum_of_bytes(bytes: &[u8]) -> u64
+    ensures { λ r. ⌜ r ≡ checksum 31 2147483647 (now (bytes .entry)) (length (now (bytes .entry))) ⌝ }
+{
+    let mut sum: u64 = 0;
+    for i in 0..bytes.len() {
+        sum = (sum % 2147483647 * 31 + bytes[i] as u64) % 2147483647;
+    }
+    sum
+}
+
+// The checksum of words.
+pub fn sum_of_words(words: &[u32]) -> u64
+    ensures { λ r. ⌜ r ≡ checksum 1103515245 8589934583 (now (words .entry)) (length (now (words .entry))) ⌝ }
+{
+    let mut sum: u64 = 0;
+    for i in 0..words.len() {
+        sum = (sum % 8589934583 * 1103515245 + words[i] as u64) % 8589934583;
+    }
+    sum
+}
