@@ -18,6 +18,12 @@ struct Case {
     room: usize,
 }
 
+// A row of two numbers: a place and its four bytes, or how many key/value bytes there are and where the file ends.
+enum Row {
+    Place,
+    End,
+}
+
 fn main() {
     let mut bytes = [0u8; 66000];
     print_files(&mut bytes);
@@ -44,43 +50,32 @@ fn print_cut(bytes: &mut [u8], len: usize) {
     print_answers(bytes, len, 8200);
 }
 
-// Four bytes of a plain file with another value. Each list is lent by a function of its own, here and below: a function that holds long lists
-// takes long to prove.
+// Four bytes of a plain file with another value.
 fn print_places(bytes: &mut [u8]) {
-    print_first(bytes);
-    print_formats(bytes);
-    print_counts(bytes);
-    print_behind(bytes);
+    print_rows(Row::Place, &tables::PLACES, bytes);
 }
 
-fn print_first(bytes: &mut [u8]) {
-    print_fields(&tables::FIRST, bytes);
-}
-
-fn print_formats(bytes: &mut [u8]) {
-    print_fields(&tables::FORMATS, bytes);
-}
-
-fn print_counts(bytes: &mut [u8]) {
-    print_fields(&tables::COUNTS, bytes);
-}
-
-fn print_behind(bytes: &mut [u8]) {
-    print_fields(&tables::BEHIND, bytes);
-}
-
-fn print_fields(listed: &[[u32; 2]], bytes: &mut [u8]) {
+fn print_rows(kind: Row, listed: &[u64], bytes: &mut [u8]) {
     for i in 0..listed.len() {
-        print_field(listed[i], bytes);
+        print_row(kind, listed[i], bytes);
     }
 }
 
-fn print_field(row: [u32; 2], bytes: &mut [u8]) {
+fn print_row(kind: Row, row: u64, bytes: &mut [u8]) {
+    match kind {
+        Row::Place => print_field(row, bytes),
+        Row::End => print_end(row, bytes),
+    }
+}
+
+fn print_field(row: u64, bytes: &mut [u8]) {
+    let at = row / 4294967296;
+    let v = row % 4294967296;
     lay(bytes, plain_case());
-    samples::set_u32(bytes, row[0], row[1]);
-    print_name(b"place", row[0] as u64);
+    samples::set_u32(bytes, at as u32, v as u32);
+    print_name(b"place", at);
     io::write_all(1, b" has ");
-    io::print_hex(1, row[1] as u64, 8);
+    io::print_hex(1, v, 8);
     print_answers(bytes, 66000, 8200);
 }
 
@@ -107,18 +102,13 @@ fn print_format_cases(bytes: &mut [u8]) {
 }
 
 fn print_key_values(bytes: &mut [u8]) {
-    print_ends(&tables::KEY_VALUES, bytes);
-}
-
-fn print_ends(listed: &[[u32; 2]], bytes: &mut [u8]) {
-    for i in 0..listed.len() {
-        print_end(listed[i], bytes);
-    }
+    print_rows(Row::End, &tables::KEY_VALUES, bytes);
 }
 
 // A plain file with other key/value bytes, cut there.
-fn print_end(row: [u32; 2], bytes: &mut [u8]) {
-    let c = make_case(0x8c02, row[0], 8, 8, 32, row[1] as usize, 8200);
+fn print_end(row: u64, bytes: &mut [u8]) {
+    let key_values = (row / 100000 % 4294967296) as u32;
+    let c = make_case(0x8c02, key_values, 8, 8, 32, (row % 100000) as usize, 8200);
     print_case(b"case", c, bytes);
 }
 
@@ -231,11 +221,16 @@ fn plain_case() -> Case {
 fn faulty(first: u64, second: u64) -> Case {
     let width = width_with(first, width_with(second, 8));
     let height = height_with(first, height_with(second, 8));
+    let format = if either(first, second, 34) {
+        0x8c04
+    } else {
+        0x8c02
+    };
     let key_values = if either(first, second, 21) { 4097 } else { 12 };
     let room = if either(first, second, 4) { 63 } else { 8200 };
     let size = size_with(first, second, width, height);
     let end = end_with(first, second, key_values);
-    make_case(0x8c02, key_values, width, height, size, end, room)
+    make_case(format, key_values, width, height, size, end, room)
 }
 
 // The width that a refusal asks, or another.
@@ -302,7 +297,6 @@ fn bring(bytes: &mut [u8], fault: u64) {
     match fault {
         32 => samples::set_u32(bytes, 4, 0xbb303220),
         33 => samples::set_u32(bytes, 12, 0x01020304),
-        34 => samples::set_u32(bytes, 28, 0x8c04),
         35 => samples::set_u32(bytes, 52, 6),
         _ => {}
     }
@@ -310,11 +304,12 @@ fn bring(bytes: &mut [u8], fault: u64) {
 
 // Lays a plain file with what is chosen of it. Its size word is laid where there is a place for it.
 fn lay(bytes: &mut [u8], c: Case) {
-    samples::lay_file(&tables::PLAIN, bytes);
-    samples::set_u32(bytes, 28, c.format);
-    samples::set_u32(bytes, 36, c.width);
-    samples::set_u32(bytes, 40, c.height);
-    samples::set_u32(bytes, 60, c.key_values);
+    let mut header = tables::PLAIN;
+    header[7] = c.format;
+    header[9] = c.width;
+    header[10] = c.height;
+    header[15] = c.key_values;
+    samples::lay_file(&header, bytes);
     if c.key_values < 66000 {
         samples::set_u32(bytes, 64 + c.key_values, c.size);
     }
