@@ -2,12 +2,20 @@
 // was written by tools/replay_plates. It is one module, since what a function prints is nothing that it could promise.
 mod tables;
 
+ghost use lib.ListN.{length};
+ghost use Rattle.convert.specs.Output.{Room};
+
+// A row of numbers: a place and its four bytes, how much metadata there is and where the file ends, or a format and two sides.
+enum Row {
+    Place,
+    End,
+    Size,
+}
+
 fn main() {
     let mut bytes = [0u8; 40000];
     print_cuts(&mut bytes);
-    print_fields(&mut bytes);
-    print_ends(&mut bytes);
-    print_sizes(&mut bytes);
+    print_listed(&mut bytes);
     print_faults(&mut bytes);
 }
 
@@ -21,58 +29,69 @@ fn print_cuts(bytes: &mut [u8]) {
 fn print_cut(bytes: &mut [u8], len: usize) {
     samples::lay_file(&tables::PLAIN, bytes);
     print_name(b"cut", len as u64);
-    print_converted(bytes, len);
+    print_answer(bytes, len);
+}
+
+// The listed files.
+fn print_listed(bytes: &mut [u8]) {
+    print_rows(Row::Place, &tables::FIELDS, bytes);
+    print_rows(Row::End, &tables::ENDS, bytes);
+    print_rows(Row::Size, &tables::SIZES, bytes);
+}
+
+fn print_rows(kind: Row, listed: &[u64], bytes: &mut [u8]) {
+    for i in 0..listed.len() {
+        print_row(kind, listed[i], bytes);
+    }
+}
+
+fn print_row(kind: Row, row: u64, bytes: &mut [u8]) {
+    match kind {
+        Row::Place => print_field(row, bytes),
+        Row::End => print_end(row, bytes),
+        Row::Size => print_size(row, bytes),
+    }
 }
 
 // A field of the header with another value.
-fn print_fields(bytes: &mut [u8]) {
-    let t = tables::FIELDS;
-    for i in 0..60 {
-        print_field(bytes, t[i][0], t[i][1]);
-    }
-}
-
-fn print_field(bytes: &mut [u8], at: u32, v: u32) {
+fn print_field(row: u64, bytes: &mut [u8]) {
+    let at = row / 4294967296;
+    let v = row % 4294967296;
     samples::lay_file(&tables::PLAIN, bytes);
-    samples::set_u32(bytes, at, v);
-    print_name(b"place", at as u64);
-    print_name(b" has", v as u64);
-    print_converted(bytes, 40000);
+    samples::set_u32(bytes, at as u32, v as u32);
+    print_name(b"place", at);
+    print_name(b" has", v);
+    print_answer(bytes, 40000);
 }
 
 // Much metadata, and a file that ends in it or in the data behind it.
-fn print_ends(bytes: &mut [u8]) {
-    let t = tables::ENDS;
-    for i in 0..8 {
-        print_end(bytes, t[i][0], t[i][1]);
-    }
-}
-
-fn print_end(bytes: &mut [u8], metadata: u32, end: u32) {
+fn print_end(row: u64, bytes: &mut [u8]) {
+    let metadata = row / 10000 % 4294967296;
+    let end = row % 10000;
     samples::lay_file(&tables::PLAIN, bytes);
-    samples::set_u32(bytes, 48, metadata);
-    print_name(b"metadata", metadata as u64);
-    print_name(b", cut", end as u64);
-    print_converted(bytes, end as usize);
+    samples::set_u32(bytes, 48, metadata as u32);
+    print_name(b"metadata", metadata);
+    print_name(b", cut", end);
+    print_answer(bytes, end as usize);
 }
 
 // A format and two sides, behind as much metadata as is allowed.
-fn print_sizes(bytes: &mut [u8]) {
-    let t = tables::SIZES;
-    for i in 0..24 {
-        print_size(bytes, t[i][0], t[i][1], t[i][2]);
-    }
+fn print_size(row: u64, bytes: &mut [u8]) {
+    let format = row / 100000000 % 4294967296;
+    let width = row / 10000 % 10000;
+    let height = row % 10000;
+    set_size(format as u32, width as u32, height as u32, bytes);
+    print_name(b"format", format);
+    print_name(b", size", width);
+    print_name(b" x", height);
+    print_answer(bytes, 40000);
 }
 
-fn print_size(bytes: &mut [u8], format: u32, width: u32, height: u32) {
+fn set_size(format: u32, width: u32, height: u32, bytes: &mut [u8]) {
     samples::lay_file(&tables::PLAIN, bytes);
     samples::set_u32(bytes, 8, format);
     set_sides(bytes, width, height);
     samples::set_u32(bytes, 48, 4096);
-    print_name(b"format", format as u64);
-    print_name(b", size", width as u64);
-    print_name(b" x", height as u64);
-    print_converted(bytes, 40000);
 }
 
 // Every two refusals at once.
@@ -97,7 +116,7 @@ fn print_two(bytes: &mut [u8], first: u64, second: u64) {
     bring(bytes, first);
     print_name(b"faults", first);
     print_name(b" and", second);
-    print_converted(bytes, facts::least(end_of(first), end_of(second)));
+    print_answer(bytes, facts::least(end_of(first), end_of(second)));
 }
 
 fn set_sides(bytes: &mut [u8], width: u32, height: u32) {
@@ -141,13 +160,24 @@ fn print_output(bytes: &[u8]) {
     }
 }
 
-// What is written for the first `len` bytes of a file.
-fn print_converted(bytes: &[u8], len: usize) {
+// What the program answers for the first `end` bytes of a file.
+fn print_answer(bytes: &[u8], end: usize) {
     io::write_all(1, b": ");
+    print_converted(bytes, end);
+}
+
+// What is written for the first `end` bytes of a file.
+fn print_converted(bytes: &[u8], end: usize) {
     let mut image = [0u32; 131072];
     let mut out = [0u8; 524306];
-    let end = facts::least(len, bytes.len());
-    let r = convert::convert(&bytes[..end], &mut image, &mut out);
+    let n = facts::least(end, bytes.len());
+    print_written(&bytes[..n], &mut image, &mut out);
+}
+
+fn print_written(file: &[u8], image: &mut [u32], out: &mut [u8])
+    requires { ⌜ Room (length (now image)) (length (now out)) ⌝ }
+{
+    let r = convert::convert(file, image, out);
     print_output(&out[..r]);
 }
 
