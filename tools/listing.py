@@ -9,12 +9,18 @@ from plates import written
 ROOT = os.path.dirname(os.path.dirname(os.path.abspath(__file__)))
 
 
+def row(marked):
+    """The numbers of a row that is written as one number, with a mark between each two."""
+    base = 16 if marked.startswith("0x") else 10
+    return [int(part, base) for part in marked.split("_")]
+
+
 def tables(crate):
     """The constants of a crate's tables, as lists of numbers or of rows."""
     text = open(os.path.join(ROOT, "crates", crate, "src/tables.rt")).read()
     found = {}
     for name, body in re.findall(r"pub const (\w+): [^=]*= (\[.*?\]);", re.sub(r"//[^\n]*", "", text), re.S):
-        found[name] = eval(body)
+        found[name] = eval(re.sub(r"\w+_\w+", lambda marked: str(row(marked.group())), body))
     return found
 
 

@@ -23,7 +23,7 @@ use Rattle.ktx.specs.Header.{sizeWord, payloadOffset, headerChecks}
 use Rattle.ktx.specs.NoEffect.{SameHeader}
 use Rattle.ktx.specs.Picture.{plateOf, levelData, sizedChecks, pictureRefusal, KtxDecoded}
 use Rattle.ktx.specs.declared.Decoded.{Decoded}
-use Rattle.ktx.proofs.NoEffect.{header-before, same-number, same-picture, same-word, same-payload, sized-alike, words-alike}
+use Rattle.ktx.proofs.NoEffect.{header-before, same-number, same-picture, same-payload, sized-alike, words-alike}
 use Rattle.ktx.proofs.Whole.{call-decides, header-accepted, size-fits}
 use Rattle.capi.specs.Ktx.{WroteKtx}
 use Rattle.demands.proofs.Past.{chosen}
@@ -58,7 +58,7 @@ module _ (file more : List ℕ) (enough : payloadOffset file + need (plateOf fil
   number room =
       first-append (headerChecks (file ++ more)) _ tt
       ∙ ap₂ (λ (n m : ℕ). cond (eqb n 0) m n) (same-number header)
-      (sized-alike room (same-picture header) (same-word header) (ap length data-more) ∙ sized-past room)
+      (sized-alike room (same-picture header) (header .size) (ap length data-more) ∙ sized-past room)
       ∙ sym (first-append (headerChecks file) _ tt)
 
   -- where the file is decoded, each texel is the same

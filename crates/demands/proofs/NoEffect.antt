@@ -113,7 +113,7 @@ module _ {f g : List ℕ} (s : SameButIgnored f g) where
   same-ktx-field : (k : ℕ) → ktxField f k ≡ ktxField g k
   same-ktx-field k =
       let h = ktx.header-same s in
-      fields-alike k (ktx.same-number h) (ktx.same-width h) (ktx.same-height h) (ap bitsOf (ktx.same-depth h)) (ktx.same-payload h) (ktx.same-word h)
+      fields-alike k (ktx.same-number h) (ktx.same-width h) (ktx.same-height h) (ap bitsOf (ktx.same-depth h)) (ktx.same-payload h) (h .size)
 
   -- the first four bytes are not ignored, and tell the kind
   same-ktx-kind : isKtx f ≡ isKtx g

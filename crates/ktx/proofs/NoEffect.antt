@@ -1,5 +1,5 @@
 -- Type size, base format, levels, the key/value bytes and whatever follows level 0 have no effect on how a file is read. Assumes nothing.
-use mathlib.Core.Path.{_≡_, refl, sym, ap, ap₂, subst, _∙_}
+use mathlib.Core.Path.{_≡_, refl, sym, ap, ap₂, _∙_}
 use mathlib.Core.Bool.{Bool, true, false, cond, not, _&&_}
 use mathlib.Core.List.{List, [], _∷_, _++_}
 use Prim.Native.Nat.{ℕ, _+_, _<_, _≤_}
@@ -13,7 +13,7 @@ use Rattle.facts.proofs.Checks.{first-append}
 use Rattle.facts.proofs.Order.{holds-here}
 use Rattle.files.specs.Fields.{u32At, bitsOf, unlessRefused}
 use Rattle.files.proofs.Answers.{SameSays, SameHead}
-use Rattle.files.proofs.Fields.{same-field, field-kept, rest-same}
+use Rattle.files.proofs.Fields.{same-field, field-before, field-kept, rest-same}
 use Rattle.files.proofs.Starts.{same-start}
 use Rattle.paint.specs.Sheet.{onSheet}
 use Rattle.pvrtc.specs.Picture.{sheetOf, pictureTexel}
@@ -21,7 +21,7 @@ use Rattle.pvrtc.specs.declared.Picture.{Picture}
 use Rattle.ktx.specs.declared.Decoded.{Decoded}
 use Rattle.ktx.specs.declared.Header.{Header}
 use Rattle.ktx.specs.Header.{headerSize, identifier, internalFormat, hasTwoBits, isTwo, widthField, heightField}
-use Rattle.ktx.specs.Header.{keyValueBytes, sizePlace, sizeWord, payloadOffset}
+use Rattle.ktx.specs.Header.{keyValueBytes, sizePlace, payloadOffset}
 use Rattle.ktx.specs.Header.{shortHeader, notKtx, otherByteOrder, unknownFormat, notOnePlate, cutShort}
 use Rattle.ktx.specs.Header.{fieldChecks, headerChecks, headerRefusal, HeaderRead}
 use Rattle.ktx.specs.NoEffect.{isIgnored, SameButIgnored, SameFields, SameHeader}
@@ -46,6 +46,9 @@ module _ {f g : List ℕ} (s : SameFields f g) where
 
   pub same-key-values : keyValueBytes f ≡ keyValueBytes g
   same-key-values = field 60 (omega arith) tt
+
+  same-place : sizePlace f ≡ sizePlace g
+  same-place = ap (λ (n : ℕ). headerSize + n) same-key-values
 
   same-order : otherByteOrder f ≡ otherByteOrder g
   same-order = rw (field 12 (omega arith) tt)
@@ -89,16 +92,10 @@ words-alike {m = m} {p} {q} {d} old en ep ed =
 
 -- two files with the same header
 module _ {f g : List ℕ} (s : SameHeader f g) where
-  same-place : sizePlace f ≡ sizePlace g
-  same-place = ap (λ (n : ℕ). headerSize + n) (same-key-values (s .fields))
-
-  pub same-word : sizeWord f ≡ sizeWord g
-  same-word = same-field f g (sizePlace f) (s .size) ∙ ap (u32At g) same-place
-
   same-plate : ktxPlate f ≡ ktxPlate g
   same-plate =
       let fields = s .fields in
-      rw (s .cut, same-word, field fields 36 (omega arith) tt, field fields 40 (omega arith) tt, same-format fields, same-key-values fields) refl
+      rw (s .cut, s .size, field fields 36 (omega arith) tt, field fields 40 (omega arith) tt, same-format fields, same-key-values fields) refl
 
   -- say the same to the program
   pub same-says : SameSays (ktxSays f) (ktxSays g)
@@ -121,7 +118,7 @@ module _ {f g : List ℕ} (s : SameHeader f g) where
   same-depth = ap hasTwoBits (same-format (s .fields))
 
   pub same-payload : payloadOffset f ≡ payloadOffset g
-  same-payload = ap (λ (n : ℕ). n + 4) same-place
+  same-payload = ap (λ (n : ℕ). n + 4) (same-place (s .fields))
 
   -- its answer
   pub no-effect : {r : Header} → HeaderRead f r → HeaderRead g r
@@ -132,7 +129,7 @@ module _ {f g : List ℕ} (s : SameHeader f g) where
         height = p .height ∙ ap₂ unlessRefused same-number same-height;
         bits = p .bits ∙ ap₂ unlessRefused same-number (ap bitsOf same-depth);
         payload = p .payload ∙ ap₂ unlessRefused same-number same-payload;
-        size = p .size ∙ ap₂ unlessRefused same-number same-word;
+        size = p .size ∙ ap₂ unlessRefused same-number (s .size);
       }
 
   pub same-picture : plateOf f ≡ plateOf g
@@ -142,7 +139,7 @@ module _ {f g : List ℕ} (s : SameHeader f g) where
   pub same-refusal : length (levelData f) ≡ length (levelData g) → (room : ℕ) → pictureRefusal f room ≡ pictureRefusal g room
   same-refusal even room =
       first-append (headerChecks f) _ tt
-      ∙ ap₂ (λ (n m : ℕ). cond (eqb n 0) m n) same-number (sized-alike room same-picture same-word even)
+      ∙ ap₂ (λ (n m : ℕ). cond (eqb n 0) m n) same-number (sized-alike room same-picture (s .size) even)
       ∙ sym (first-append (headerChecks g) _ tt)
 
   -- and where the data is the same, its picture
@@ -157,7 +154,7 @@ header-turned {f} {g} s =
     record {
       fields = fields;
       cut = sym (s .cut);
-      size = λ k h. sym (subst (λ (n : ℕ). getD f (n + k) 0 ≡ getD g (n + k) 0) (same-place s) (s .size k h));
+      size = sym (s .size);
     }
 
 -- whatever follows the fields leaves what these say
@@ -185,7 +182,7 @@ module _ (file more : List ℕ) where
       record {
         fields = fields;
         cut = le-ltb _ _ there ∙ sym (le-ltb _ _ h);
-        size = λ k l. byte (sizePlace (file ++ more) + k) (omega (arith, same));
+        size = ap (u32At (file ++ more)) (same-place fields) ∙ field-before file more (sizePlace file) h;
       }
 
 -- two files of one length that have the same fields and the same size word have the same header
@@ -193,8 +190,12 @@ pub of-one-length : (f g : List ℕ) → length f ≡ length g → ((i : ℕ) �
     → ((k : ℕ) → k < 4 → getD f (sizePlace f + k) 0 ≡ getD g (sizePlace f + k) 0) → SameHeader f g
 of-one-length f g even bytes size =
     let fields : SameFields f g = record { short = ap (λ (n : ℕ). ltb n headerSize) even; bytes = bytes } in
-    let places : payloadOffset f ≡ payloadOffset g = ap (λ (n : ℕ). headerSize + n + 4) (same-key-values fields) in
-    record { fields = fields; cut = ap₂ ltb even places; size = size }
+    let places : payloadOffset f ≡ payloadOffset g = ap (λ (n : ℕ). n + 4) (same-place fields) in
+    record {
+      fields = fields;
+      cut = ap₂ ltb even places;
+      size = same-field f g (sizePlace f) size ∙ ap (u32At g) (same-place fields);
+    }
 
 -- so have two files that differ in ignored fields and key/value bytes alone
 module _ {f g : List ℕ} (s : SameButIgnored f g) where

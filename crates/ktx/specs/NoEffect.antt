@@ -2,10 +2,10 @@
 use mathlib.Core.Path.{_≡_}
 use mathlib.Core.Bool.{Bool, false, _&&_, _||_}
 use mathlib.Core.List.{List}
-use Prim.Native.Nat.{ℕ, _+_, _<_}
+use Prim.Native.Nat.{ℕ, _<_}
 use lib.Dec.{ltb, leb}
 use lib.ListN.{length, getD}
-use Rattle.ktx.specs.Header.{headerSize, sizePlace, shortHeader, cutShort}
+use Rattle.ktx.specs.Header.{headerSize, sizePlace, sizeWord, shortHeader, cutShort}
 
 -- Of the fields, type size, base format and levels have no effect: places 20 to 23, 32 to 35 and 56 to 59.
 abbrev pub isIgnored : ℕ → Bool
@@ -29,4 +29,4 @@ pub record SameFields (f g : List ℕ) : Type 0 where
 pub record SameHeader (f g : List ℕ) : Type 0 where
   pub fields : SameFields f g
   pub cut : cutShort f ≡ cutShort g
-  pub size : (k : ℕ) → k < 4 → getD f (sizePlace f + k) 0 ≡ getD g (sizePlace f + k) 0
+  pub size : sizeWord f ≡ sizeWord g

@@ -1,11 +1,11 @@
-// What the programs of the gate make their files with, and sum up answers by.
+// What programs of the gate share: files laid in memory, and checksums of what comes of them.
 ghost use mathlib.Core.Path.{_≡_};
 ghost use lib.ListN.{length, getD, set};
 ghost use Rattle.facts.specs.Tab.{tab};
 ghost use Rattle.samples.specs.File.{bytesOf, fileByte, withU32};
 ghost use Rattle.samples.specs.Sums.{checksum};
 
-// Lays a sample file: the numbers of its header, four bytes each, and behind them bytes by a rule.
+// Lays a sample file: the numbers of its header, four bytes each, the lowest first, and behind them bytes by a rule.
 pub fn lay_file(header: &[u32], bytes: &mut [u8])
     ensures { λ _. ⌜ now (bytes .exit) ≡ tab (fileByte (now (header .entry))) (length (now (bytes .entry))) ⌝ }
 {
