@@ -18,7 +18,7 @@ struct Case {
     room: usize,
 }
 
-// A row of two numbers: a place and its four bytes, or how many key/value bytes there are and where the file ends.
+// A row of the tables, two numbers as one: a place and its four bytes, or how many key/value bytes there are and where the file ends.
 enum Row {
     Place,
     End,
@@ -68,6 +68,7 @@ fn print_row(kind: Row, row: u64, bytes: &mut [u8]) {
     }
 }
 
+// The last eight digits of the row, which is hexadecimal, at the place before them.
 fn print_field(row: u64, bytes: &mut [u8]) {
     let at = row / 4294967296;
     let v = row % 4294967296;
@@ -87,7 +88,7 @@ fn print_turned(bytes: &mut [u8]) {
     print_answers(bytes, 66000, 8200);
 }
 
-// The listed files.
+// The listed files. Each list of cases is lent by a function of its own: one that holds many takes long to prove.
 fn print_listed(bytes: &mut [u8]) {
     print_format_cases(bytes);
     print_key_values(bytes);
@@ -105,7 +106,7 @@ fn print_key_values(bytes: &mut [u8]) {
     print_rows(Row::End, &tables::KEY_VALUES, bytes);
 }
 
-// A plain file with other key/value bytes, cut there.
+// A plain file with other key/value bytes, cut where the last five digits of the row say.
 fn print_end(row: u64, bytes: &mut [u8]) {
     let key_values = (row / 100000 % 4294967296) as u32;
     let c = make_case(0x8c02, key_values, 8, 8, 32, (row % 100000) as usize, 8200);

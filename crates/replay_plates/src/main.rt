@@ -5,7 +5,8 @@ mod tables;
 ghost use lib.ListN.{length};
 ghost use Rattle.convert.specs.Output.{Room};
 
-// A row of numbers: a place and its four bytes, how much metadata there is and where the file ends, or a format and two sides.
+// A row of the tables, its numbers as one: a place and its four bytes, how much metadata there is and where the file ends, or a format and two
+// sides.
 enum Row {
     Place,
     End,
@@ -53,7 +54,7 @@ fn print_row(kind: Row, row: u64, bytes: &mut [u8]) {
     }
 }
 
-// A field of the header with another value.
+// A field of the header with another value: the last eight digits of the row, which is hexadecimal, at the place before them.
 fn print_field(row: u64, bytes: &mut [u8]) {
     let at = row / 4294967296;
     let v = row % 4294967296;
@@ -64,7 +65,7 @@ fn print_field(row: u64, bytes: &mut [u8]) {
     print_answer(bytes, 40000);
 }
 
-// Much metadata, and a file that ends in it or in the data behind it.
+// Much metadata, and a file that ends in it or in the data behind it, where the last four digits of the row say.
 fn print_end(row: u64, bytes: &mut [u8]) {
     let metadata = row / 10000 % 4294967296;
     let end = row % 10000;
@@ -75,7 +76,7 @@ fn print_end(row: u64, bytes: &mut [u8]) {
     print_answer(bytes, end as usize);
 }
 
-// A format and two sides, behind as much metadata as is allowed.
+// A format and two sides of four digits each, behind as much metadata as is allowed.
 fn print_size(row: u64, bytes: &mut [u8]) {
     let format = row / 100000000 % 4294967296;
     let width = row / 10000 % 10000;
