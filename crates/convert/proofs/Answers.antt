@@ -19,9 +19,10 @@ use Rattle.pvrtc.specs.Picture.{pictureTexel}
 use Rattle.pvrtc.specs.Refusals.{numberOf, decodedNumber}
 use Rattle.pvrtc.proofs.Agree.{word-is}
 use Rattle.pvrtc.proofs.Unique.{number-above}
-use Rattle.convert.specs.Inner.{Laid}
+use Rattle.files.specs.Fields.{byteOf}
 use Rattle.files.specs.declared.Stored.{Stored}
-use Rattle.convert.specs.Output.{pictureOf, limitChecks, ownChecks, refusedLine, byteOf, tgaHeader, tgaOf, tga, written, Answered}
+use Rattle.convert.specs.Inner.{Laid}
+use Rattle.convert.specs.Output.{pictureOf, limitChecks, ownChecks, refusedLine, tgaHeader, tgaOf, tga, written, Answered}
 use Rattle.convert.proofs.Limits.{kept, own-number, few-words, call-says}
 
 -- no two outcomes meet the promise

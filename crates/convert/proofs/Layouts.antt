@@ -10,8 +10,9 @@ use Rattle.facts.proofs.Tab.{length-tab}
 use Rattle.paint.specs.Paint.{painted}
 use Rattle.pvrtc.specs.declared.Picture.{Picture}
 use Rattle.pvrtc.specs.Picture.{pictureTexel}
+use Rattle.files.specs.Fields.{byteOf}
 use Rattle.convert.specs.Inner.{Laid}
-use Rattle.convert.specs.Output.{refusedLine, byteOf, tgaHeader, tgaOf, tga, laid}
+use Rattle.convert.specs.Output.{refusedLine, tgaHeader, tgaOf, tga, laid}
 use Rattle.convert.proofs.Front.{laid-more}
 
 -- a refusal's line, with one digit and with two

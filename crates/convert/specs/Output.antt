@@ -4,13 +4,13 @@
 use mathlib.Core.Path.{_≡_}
 use mathlib.Core.Bool.{Bool, true, false, cond, not, _&&_, _||_}
 use mathlib.Core.List.{List, [], _∷_, _++_}
-use Prim.Native.Nat.{ℕ, _+_, _*_, _/_, _%_, _^_, _≤_, max}
+use Prim.Native.Nat.{ℕ, _+_, _*_, _/_, _%_, _≤_, max}
 use lib.Dec.{eqb, ltb}
 use lib.ListN.{length, take, drop}
 use Rattle.facts.specs.Checks.{Check, check, firstOf}
 use Rattle.facts.specs.Tab.{tab}
 use Rattle.paint.specs.Sheet.{onSheet}
-use Rattle.files.specs.Fields.{startsWith}
+use Rattle.files.specs.Fields.{startsWith, byteOf}
 use Rattle.files.specs.Reading.{Says, fitsSize}
 use Rattle.files.specs.declared.Stored.{Stored}
 use Rattle.pvr.specs.Header as pvr
@@ -122,10 +122,6 @@ refusedText = 0x72 ∷ 0x65 ∷ 0x66 ∷ 0x75 ∷ 0x73 ∷ 0x65 ∷ 0x64 ∷ 0x2
 -- The line `refused N`, with its line feed.
 unfoldable pub refusedLine : ℕ → List ℕ
 refusedLine n = refusedText ++ (digits n ++ (0x0A ∷ []))
-
--- Byte k of a number, little-endian.
-abbrev pub byteOf : ℕ → ℕ → ℕ
-byteOf v k = v / 256 ^ k % 256
 
 -- The 18 bytes of a TGA's header: uncompressed, 32 bits a texel, the first row on top.
 unfoldable pub tgaHeader : (w h : ℕ) → List ℕ

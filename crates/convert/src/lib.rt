@@ -4,8 +4,9 @@ ghost use Prim.Native.Nat.{_+_, _*_, _/_, _%_, _<_, _≤_};
 ghost use lib.ListN.{length, getD};
 ghost use Rattle.facts.specs.Checks.{firstOf};
 ghost use Rattle.paint.specs.Paint.{painted};
+ghost use Rattle.files.specs.Fields.{byteOf};
 ghost use Rattle.files.specs.Reading.{readingOf};
-ghost use Rattle.convert.specs.Output.{saysOf, pictureOf, longSide, limitChecks, refusedLine, byteOf, tgaHeader, tgaOf, laid};
+ghost use Rattle.convert.specs.Output.{saysOf, pictureOf, longSide, limitChecks, refusedLine, tgaHeader, tgaOf, laid};
 ghost use Rattle.convert.specs.Output.{Room, Converted, ConvertedInRoom};
 ghost use Rattle.convert.specs.Inner.{PlateConverted, Laid, TgaFits};
 use files::Reading;
@@ -106,23 +107,6 @@ fn put_refused(n: u64, out: &mut [u8]) -> usize
     11
 }
 
-// Byte k of a word, little-endian.
-fn byte_of(word: u32, k: usize) -> u8
-    requires { ⌜ k < 4 ⌝ }
-    ensures { λ r. ⌜ r ≡ byteOf word k ⌝ }
-{
-    if k == 0 {
-        return (word % 256) as u8;
-    }
-    if k == 1 {
-        return (word / 256 % 256) as u8;
-    }
-    if k == 2 {
-        return (word / 65536 % 256) as u8;
-    }
-    (word / 16777216 % 256) as u8
-}
-
 // Lays the header of a TGA of w by h words.
 fn put_tga_header(w: usize, h: usize, out: &mut [u8])
     requires { ⌜ (w ≤ 1024) × (h ≤ 1024) × (18 ≤ length (now out)) ⌝ }
@@ -161,7 +145,7 @@ fn put_words(words: &[u32], n: usize, out: &mut [u8])
     ensures { λ _. ⌜ now (out .exit) ≡ painted 18 (4 * n) (4 * n) 1 (λ i _. byteOf (getD (now (words .entry)) (i / 4) 0) (i % 4)) (now (out .entry)) ⌝ }
 {
     for i in 0..4 * n {
-        out[18 + i] = byte_of(words[i / 4], i % 4);
+        out[18 + i] = files::byte_of(words[i / 4], i % 4);
     }
 }
 

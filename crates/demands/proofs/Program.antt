@@ -1,9 +1,9 @@
 -- The program's picture is the block call's: it is accepted where the program refuses nothing, and its texels stand in the TGA.
 -- Assumes nothing.
-use mathlib.Core.Path.{_≡_, refl, sym, ap, ap₂, _∙_}
+use mathlib.Core.Path.{_≡_, refl, ap, ap₂, _∙_}
 use mathlib.Core.List.{List}
 use Prim.Native.Nat.{ℕ, _+_, _*_, _/_, _%_, _≤_, _<_}
-use native.Mathlib.Nat.{mul-le-mul-right, div-one, div-div-eq-div-mul, div-add-mod', mod-eq-of-lt}
+use native.Mathlib.Nat.{mul-le-mul-right}
 use native.Mathlib.Omega.{arith}
 use lib.ListN.{length, getD, drop}
 use lib.Seq.{getD-append-add}
@@ -12,12 +12,13 @@ use Rattle.facts.proofs.Numbers.{split}
 use Rattle.facts.proofs.Tab.{getD-tab}
 use Rattle.grid.specs.Grid.{blockAddress}
 use Rattle.texel.proofs.Range.{texel-below}
-use Rattle.files.specs.Fields.{u32At}
+use Rattle.files.specs.Fields.{u32At, byteOf}
+use Rattle.files.proofs.Fields.{bytes-read}
 use Rattle.pvrtc.specs.Calls.{refusal}
 use Rattle.pvrtc.specs.Picture.{gridOf, pictureTexel}
 use Rattle.pvrtc.specs.declared.Call.the-variants as call
 use Rattle.pvrtc.specs.declared.Picture.{Picture}
-use Rattle.convert.specs.Output.{storedIn, plateOf, levelData, programRefusal, byteOf, tgaHeader, tgaOf, tga, output}
+use Rattle.convert.specs.Output.{storedIn, plateOf, levelData, programRefusal, tgaHeader, tgaOf, tga, output}
 use Rattle.convert.proofs.Answers.{written-tga}
 use Rattle.convert.proofs.Limits.{kept, call-says}
 use Rattle.convert.proofs.Said.{none-early, none-said}
@@ -33,20 +34,6 @@ module _ (file : List ℕ) (none : programRefusal file ≡ 0) where
 
   pub is-tga : output file ≡ tga (plateOf file) (levelData file)
   is-tga = written-tga (programRefusal file) (plateOf file) (levelData file) none
-
--- a number below 2 ^ 32 is its four bytes: each time the low one, and what is above it
-joined : (v a b c r s t : ℕ) → a * 256 + r ≡ v → b * 256 + s ≡ a → c * 256 + t ≡ b → r + 256 * s + 65536 * t + 16777216 * c ≡ v
-joined v a b c r s t ev ea eb = omega arith
-
-four-bytes : (v : ℕ) → v < 4294967296 → byteOf v 0 + 256 * byteOf v 1 + 65536 * byteOf v 2 + 16777216 * byteOf v 3 ≡ v
-four-bytes v h =
-    let a : ℕ = v / 256 in
-    let b : ℕ = a / 256 in
-    let c : ℕ = b / 256 in
-    let second : v / 65536 ≡ b = sym (div-div-eq-div-mul v 256 256) in
-    let third : v / 16777216 ≡ c = sym (div-div-eq-div-mul v 256 65536) ∙ sym (div-div-eq-div-mul a 256 256) in
-    let top : c % 256 ≡ c = mod-eq-of-lt (omega (arith, third)) in
-    rw (div-one v, second, third, top) (joined v a b c (v % 256) (a % 256) (b % 256) (div-add-mod' v 256) (div-add-mod' a 256) (div-add-mod' b 256))
 
 -- word k of a TGA
 module _ (w h : ℕ) (word : ℕ → ℕ) (k : ℕ) (l : k < w * h) where
@@ -65,11 +52,7 @@ module _ (w h : ℕ) (word : ℕ → ℕ) (k : ℕ) (l : k < w * h) where
       ∙ ap₂ (λ (n i : ℕ). byteOf (word n) i) number rest
 
   word-at : word k < 4294967296 → u32At (tgaOf w h word) (18 + 4 * k) ≡ word k
-  unfolding u32At
-  word-at low =
-      let first : 18 + 4 * k ≡ 18 + 4 * k + 0 = omega arith in
-      let start : getD (tgaOf w h word) (18 + 4 * k) 0 ≡ byteOf (word k) 0 = ap (λ (n : ℕ). getD (tgaOf w h word) n 0) first ∙ byte-at 0 (omega arith) in
-      rw (start, byte-at 1 (omega arith), byte-at 2 (omega arith), byte-at 3 (omega arith)) (four-bytes (word k) low)
+  word-at low = bytes-read (tgaOf w h word) (18 + 4 * k) (word k) low byte-at
 
 -- so word k of a picture's TGA, and texel (x, y)
 pub tga-word : (p : Picture) (d : List ℕ) (k : ℕ) → k < p .width * p .height

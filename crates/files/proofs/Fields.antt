@@ -2,15 +2,15 @@
 use mathlib.Core.Path.{_≡_, refl, sym, ap, _∙_}
 use mathlib.Core.Bool.{Bool, true, false, not}
 use mathlib.Core.List.{List, _++_}
-use Prim.Native.Nat.{ℕ, _+_, _*_, _<_, _≤_}
-use native.Mathlib.Nat.{add-assoc}
+use Prim.Native.Nat.{ℕ, _+_, _*_, _/_, _%_, _<_, _≤_}
+use native.Mathlib.Nat.{add-assoc, div-one, div-div-eq-div-mul, div-add-mod', mod-eq-of-lt}
 use native.Mathlib.Omega.{arith}
 use lib.Dec.{T}
 use lib.ListN.{length, getD, drop, length-drop, List·getD-append}
 use lib.Seq.{ext-getD, getD-drop}
 use Rattle.facts.specs.Finite.{allBelow}
 use Rattle.facts.proofs.Finite.{below}
-use Rattle.files.specs.Fields.{u32At, bitsOf}
+use Rattle.files.specs.Fields.{u32At, byteOf, bitsOf}
 
 -- two files with the same four bytes from a place on have the same number there
 pub same-field : (f g : List ℕ) (at : ℕ) → ((k : ℕ) → k < 4 → getD f (at + k) 0 ≡ getD g (at + k) 0) → u32At f at ≡ u32At g at
@@ -27,6 +27,27 @@ module _ (f g : List ℕ) (isIgnored : ℕ → Bool) (size : ℕ) (e : (i : ℕ)
       read : (b : Bool) → T (not b) → b ≡ false
       read true q = absurd q
       read false q = refl
+
+-- a number below 2 ^ 32 is its four bytes: each time the low one, and what is above it
+joined : (v a b c r s t : ℕ) → a * 256 + r ≡ v → b * 256 + s ≡ a → c * 256 + t ≡ b → r + 256 * s + 65536 * t + 16777216 * c ≡ v
+joined v a b c r s t ev ea eb = omega arith
+
+four-bytes : (v : ℕ) → v < 4294967296 → byteOf v 0 + 256 * byteOf v 1 + 65536 * byteOf v 2 + 16777216 * byteOf v 3 ≡ v
+four-bytes v h =
+    let a : ℕ = v / 256 in
+    let b : ℕ = a / 256 in
+    let c : ℕ = b / 256 in
+    let second : v / 65536 ≡ b = sym (div-div-eq-div-mul v 256 256) in
+    let third : v / 16777216 ≡ c = sym (div-div-eq-div-mul v 256 65536) ∙ sym (div-div-eq-div-mul a 256 256) in
+    let top : c % 256 ≡ c = mod-eq-of-lt (omega (arith, third)) in
+    rw (div-one v, second, third, top) (joined v a b c (v % 256) (a % 256) (b % 256) (div-add-mod' v 256) (div-add-mod' a 256) (div-add-mod' b 256))
+
+-- so where the four bytes of a number stand, that number is read
+pub bytes-read : (file : List ℕ) (at v : ℕ) → v < 4294967296 → ((k : ℕ) → k < 4 → getD file (at + k) 0 ≡ byteOf v k) → u32At file at ≡ v
+unfolding u32At
+bytes-read file at v h e =
+    let none : at + 0 ≡ at = omega arith in
+    rw (rw none at (e 0 (omega arith)), e 1 (omega arith), e 2 (omega arith), e 3 (omega arith)) (four-bytes v h)
 
 -- a number read at a place, or no places after it
 pub here : (file : List ℕ) (at : ℕ) {n : ℕ} → n ≡ u32At file (at + 0) → n ≡ u32At file at

@@ -2,7 +2,7 @@
 -- `file` is the list of the file's bytes; a byte past its end counts as 0.
 use mathlib.Core.Bool.{Bool, true, false, _&&_, cond}
 use mathlib.Core.List.{List, [], _∷_}
-use Prim.Native.Nat.{ℕ, _+_, _*_}
+use Prim.Native.Nat.{ℕ, _+_, _*_, _/_, _%_, _^_}
 use lib.Dec.{eqb}
 use lib.ListN.{getD}
 
@@ -14,6 +14,10 @@ u32At file at =
 -- The eight bytes from place `at` on, little-endian.
 abbrev pub u64At : List ℕ → ℕ → ℕ
 u64At file at = u32At file at + 4294967296 * u32At file (at + 4)
+
+-- Byte k of a number, the lowest first.
+abbrev pub byteOf : ℕ → ℕ → ℕ
+byteOf v k = v / 256 ^ k % 256
 
 -- Whether a file's first bytes are these.
 unfoldable pub startsWith : List ℕ → List ℕ → Bool

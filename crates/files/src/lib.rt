@@ -1,8 +1,8 @@
-// What the readers of files share: a file's first bytes, its little-endian numbers, and the face that they show to the program.
+// What the readers of files share: a file's first bytes, its little-endian numbers and their bytes, and the face that they show to the program.
 ghost use mathlib.Core.Path.{_≡_};
 ghost use Prim.Native.Nat.{_+_, _<_, _≤_};
 ghost use lib.ListN.{getD};
-ghost use Rattle.files.specs.Fields.{u32At, u64At, startsWith};
+ghost use Rattle.files.specs.Fields.{u32At, u64At, byteOf, startsWith};
 ghost use Rattle.files.specs.Reading.{fitsSize};
 
 // The size that a file says its plate's data has, where its kind says one.
@@ -82,6 +82,19 @@ pub fn u64_at(file: &[u8], at: usize) -> u64
     ensures { λ r. ⌜ r ≡ u64At (now (file .entry)) at ⌝ }
 {
     (u32_from(file, at, 0) as u64) + 4294967296 * (u32_from(file, at, 4) as u64)
+}
+
+// Byte k of a number, the lowest first; from the fifth on, 0.
+pub fn byte_of(v: u32, k: usize) -> u8
+    ensures { λ r. ⌜ r ≡ byteOf v k ⌝ }
+{
+    match k {
+        0 => (v % 256) as u8,
+        1 => (v / 256 % 256) as u8,
+        2 => (v / 65536 % 256) as u8,
+        3 => (v / 16777216 % 256) as u8,
+        _ => 0,
+    }
 }
 
 // Whether a said size, if one is said, is this one.

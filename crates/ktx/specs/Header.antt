@@ -69,6 +69,7 @@ keyValueBytes file = u32At file 60
 abbrev pub sizePlace : List ℕ → ℕ
 sizePlace file = headerSize + keyValueBytes file
 
+-- The size word: how many bytes level 0 is said to have.
 abbrev pub sizeWord : List ℕ → ℕ
 sizeWord file = u32At file (sizePlace file)
 

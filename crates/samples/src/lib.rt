@@ -1,8 +1,8 @@
 // What programs of the gate share: files laid in memory, and checksums of what comes of them.
 ghost use mathlib.Core.Path.{_≡_};
-ghost use lib.ListN.{length, getD, set};
+ghost use lib.ListN.{length, set};
 ghost use Rattle.facts.specs.Tab.{tab};
-ghost use Rattle.samples.specs.File.{bytesOf, fileByte, withU32};
+ghost use Rattle.samples.specs.File.{fileByte, withU32};
 ghost use Rattle.samples.specs.Sums.{checksum};
 
 // Lays a sample file: the numbers of its header, four bytes each, the lowest first, and behind them bytes by a rule.
@@ -18,22 +18,9 @@ fn file_byte(header: &[u32], k: usize) -> u8
     ensures { λ r. ⌜ r ≡ fileByte (now (header .entry)) k ⌝ }
 {
     if k / 4 < header.len() {
-        byte_of(header[k / 4], k % 4)
+        files::byte_of(header[k / 4], k % 4)
     } else {
         ((37 * (k % 251) + 11) % 251) as u8
-    }
-}
-
-// Byte k of a number of four bytes, the lowest first; it has no others.
-fn byte_of(v: u32, k: usize) -> u8
-    ensures { λ r. ⌜ r ≡ getD (bytesOf v) k 0 ⌝ }
-{
-    match k {
-        0 => (v % 256) as u8,
-        1 => (v / 256 % 256) as u8,
-        2 => (v / 65536 % 256) as u8,
-        3 => (v / 16777216 % 256) as u8,
-        _ => 0,
     }
 }
 
@@ -42,10 +29,10 @@ pub fn set_u32(bytes: &mut [u8], at: u32, v: u32)
     ensures { λ _. ⌜ now (bytes .exit) ≡ withU32 at v (now (bytes .entry)) ⌝ }
 {
     let i = at as usize;
-    set_byte(bytes, i, byte_of(v, 0));
-    set_byte(bytes, i + 1, byte_of(v, 1));
-    set_byte(bytes, i + 2, byte_of(v, 2));
-    set_byte(bytes, i + 3, byte_of(v, 3));
+    set_byte(bytes, i, files::byte_of(v, 0));
+    set_byte(bytes, i + 1, files::byte_of(v, 1));
+    set_byte(bytes, i + 2, files::byte_of(v, 2));
+    set_byte(bytes, i + 3, files::byte_of(v, 3));
 }
 
 // Puts a byte at place i, if there is one.

@@ -3,9 +3,10 @@ use mathlib.Core.Path.{_≡_, ap, _∙_}
 use Prim.Native.Nat.{ℕ, _-_, _*_, _/_, _%_, _≤_}
 use native.Mathlib.Omega.{arith}
 use lib.ListN.{getD}
+use borrow.Author.Needs.{needs}
 use Rattle.paint.specs.Paint.{painted}
 use Rattle.paint.proofs.Laid.{Row, row-none, row-word}
-use Rattle.convert.specs.Output.{byteOf}
+use Rattle.files.specs.Fields.{byteOf}
 use Rattle.convert.proofs.put_words.Statement.{statement}
 use Rattle.convert.proofs.put_words.Tie as tie
 
@@ -28,7 +29,7 @@ shared-slice-read-byte-of : tie.Need-shared-slice-read-byte-of Inv-loop μ-loop
 shared-slice-read-byte-of c = omega arith
 
 byte-of-requires : tie.Need-byte-of-requires Inv-loop μ-loop
-byte-of-requires c κs = omega arith
+byte-of-requires c κs = search needs
 
 add-out : tie.Need-add-out Inv-loop μ-loop
 add-out c = omega arith
