@@ -18,10 +18,13 @@ struct Case {
     room: usize,
 }
 
-// A row of the tables, two numbers as one: a place and its four bytes, or how many key/value bytes there are and where the file ends.
+// What a row says, one number or two as one: where a file is cut, a place and its four bytes, how many key/value bytes there are and where the
+// file ends, or two refusals by their places in the order.
 enum Row {
+    Cut,
     Place,
     End,
+    Faults,
 }
 
 fn main() {
@@ -30,31 +33,21 @@ fn main() {
 }
 
 fn print_files(bytes: &mut [u8]) {
-    print_cuts(bytes);
+    print_run(Row::Cut, 115, bytes);
     print_places(bytes);
     print_turned(bytes);
     print_listed(bytes);
-    print_faults(bytes);
+    print_run(Row::Faults, 225, bytes);
 }
 
-// The first bytes of a plain file: every cut of the header, of the key/value bytes, of the size word and of the data.
-fn print_cuts(bytes: &mut [u8]) {
-    for len in 0..115 {
-        print_cut(bytes, len);
+// The rows below n, one after another.
+fn print_run(kind: Row, n: u64, bytes: &mut [u8]) {
+    for row in 0..n {
+        print_row(kind, row, bytes);
     }
 }
 
-fn print_cut(bytes: &mut [u8], len: usize) {
-    lay(bytes, plain_case());
-    print_name(b"cut", len as u64);
-    print_answers(bytes, len, 8200);
-}
-
-// Four bytes of a plain file with another value.
-fn print_places(bytes: &mut [u8]) {
-    print_rows(Row::Place, &tables::PLACES, bytes);
-}
-
+// The listed rows.
 fn print_rows(kind: Row, listed: &[u64], bytes: &mut [u8]) {
     for i in 0..listed.len() {
         print_row(kind, listed[i], bytes);
@@ -63,9 +56,23 @@ fn print_rows(kind: Row, listed: &[u64], bytes: &mut [u8]) {
 
 fn print_row(kind: Row, row: u64, bytes: &mut [u8]) {
     match kind {
+        Row::Cut => print_cut(row, bytes),
         Row::Place => print_field(row, bytes),
         Row::End => print_end(row, bytes),
+        Row::Faults => print_faults(row, bytes),
     }
+}
+
+// The first bytes of a plain file: every cut of the header, of the key/value bytes, of the size word and of the data.
+fn print_cut(row: u64, bytes: &mut [u8]) {
+    lay(bytes, plain_case());
+    print_name(b"cut", row);
+    print_answers(bytes, row as usize, 8200);
+}
+
+// Four bytes of a plain file with another value.
+fn print_places(bytes: &mut [u8]) {
+    print_rows(Row::Place, &tables::PLACES, bytes);
 }
 
 // The last eight digits of the row, which is hexadecimal, at the place before them.
@@ -154,17 +161,12 @@ fn print_chosen(c: Case) {
     print_name(b", room", c.room as u64);
 }
 
-// Every two refusals at once.
-fn print_faults(bytes: &mut [u8]) {
-    for i in 0..15 {
-        print_with(bytes, i);
-    }
-}
-
-// The refusal at place i of the order, with itself and with each behind it.
-fn print_with(bytes: &mut [u8], i: usize) {
+// Every two refusals at once: the row's two digits to the base of fifteen are their places in the order. Of each two, one row of the two is taken.
+fn print_faults(row: u64, bytes: &mut [u8]) {
+    let i = (row / 15 % 15) as usize;
+    let j = (row % 15) as usize;
     let t = tables::ORDER;
-    for j in i..15 {
+    if i <= j {
         print_two(bytes, t[i], t[j]);
     }
 }

@@ -5,41 +5,37 @@ mod tables;
 ghost use lib.ListN.{length};
 ghost use Rattle.convert.specs.Output.{Room};
 
-// A row of the tables, its numbers as one: a place and its four bytes, how much metadata there is and where the file ends, or a format and two
-// sides.
+// What a row says, one number or some as one: where a file is cut, a place and its four bytes, how much metadata there is and where the file ends,
+// a format and two sides, or two refusals by their places in the order.
 enum Row {
+    Cut,
     Place,
     End,
     Size,
+    Faults,
 }
 
 fn main() {
     let mut bytes = [0u8; 40000];
-    print_cuts(&mut bytes);
-    print_listed(&mut bytes);
-    print_faults(&mut bytes);
+    print_files(&mut bytes);
 }
 
-// The first bytes of a plain file: every cut of the header, and of the data.
-fn print_cuts(bytes: &mut [u8]) {
-    for len in 0..86 {
-        print_cut(bytes, len);
-    }
-}
-
-fn print_cut(bytes: &mut [u8], len: usize) {
-    samples::lay_file(&tables::PLAIN, bytes);
-    print_name(b"cut", len as u64);
-    print_answer(bytes, len);
-}
-
-// The listed files.
-fn print_listed(bytes: &mut [u8]) {
+fn print_files(bytes: &mut [u8]) {
+    print_run(Row::Cut, 86, bytes);
     print_rows(Row::Place, &tables::FIELDS, bytes);
     print_rows(Row::End, &tables::ENDS, bytes);
     print_rows(Row::Size, &tables::SIZES, bytes);
+    print_run(Row::Faults, 100, bytes);
 }
 
+// The rows below n, one after another.
+fn print_run(kind: Row, n: u64, bytes: &mut [u8]) {
+    for row in 0..n {
+        print_row(kind, row, bytes);
+    }
+}
+
+// The listed rows.
 fn print_rows(kind: Row, listed: &[u64], bytes: &mut [u8]) {
     for i in 0..listed.len() {
         print_row(kind, listed[i], bytes);
@@ -48,10 +44,19 @@ fn print_rows(kind: Row, listed: &[u64], bytes: &mut [u8]) {
 
 fn print_row(kind: Row, row: u64, bytes: &mut [u8]) {
     match kind {
+        Row::Cut => print_cut(row, bytes),
         Row::Place => print_field(row, bytes),
         Row::End => print_end(row, bytes),
         Row::Size => print_size(row, bytes),
+        Row::Faults => print_faults(row, bytes),
     }
+}
+
+// The first bytes of a plain file: every cut of the header, and of the data.
+fn print_cut(row: u64, bytes: &mut [u8]) {
+    samples::lay_file(&tables::PLAIN, bytes);
+    print_name(b"cut", row);
+    print_answer(bytes, row as usize);
 }
 
 // A field of the header with another value: the last eight digits of the row, which is hexadecimal, at the place before them.
@@ -95,17 +100,12 @@ fn set_size(format: u32, width: u32, height: u32, bytes: &mut [u8]) {
     samples::set_u32(bytes, 48, 4096);
 }
 
-// Every two refusals at once.
-fn print_faults(bytes: &mut [u8]) {
-    for i in 0..10 {
-        print_with(bytes, i);
-    }
-}
-
-// The refusal at place i of the order, with itself and with each behind it.
-fn print_with(bytes: &mut [u8], i: usize) {
+// Every two refusals at once: the row's two digits are their places in the order. Of each two, one row of the two is taken.
+fn print_faults(row: u64, bytes: &mut [u8]) {
+    let i = (row / 10 % 10) as usize;
+    let j = (row % 10) as usize;
     let t = tables::ORDER;
-    for j in i..10 {
+    if i <= j {
         print_two(bytes, t[i], t[j]);
     }
 }

@@ -1,25 +1,25 @@
--- `replay_ktx::print_faults` is safe and ends. Assumes nothing.
+-- `replay_ktx::print_run` is safe and ends. Assumes nothing.
 use mathlib.Core.Path.{_≡_}
 use Prim.Native.Nat.{_-_, _≤_}
 use lib.ListN.{length}
 use borrow.Author.Needs.{needs}
-use Rattle.replay_ktx.proofs.print_faults.Statement.{statement}
-use Rattle.replay_ktx.proofs.print_faults.Tie as tie
+use Rattle.replay_ktx.proofs.print_run.Statement.{statement}
+use Rattle.replay_ktx.proofs.print_run.Tie as tie
 
 abbrev Inv-loop : tie.InvT-loop
-Inv-loop bytes₀ i₀ bytes i = (i ≤ 15) × (length bytes ≡ length bytes₀)
+Inv-loop kind n bytes₀ row₀ bytes row = (row ≤ n) × (length bytes ≡ length bytes₀)
 
 abbrev μ-loop : tie.MeasureT-loop
-μ-loop bytes₀ i₀ bytes i = 15 - i
+μ-loop kind n bytes₀ row₀ bytes row = n - row
 
 loop-holds : tie.Need-loop-holds Inv-loop μ-loop
 loop-holds c = search needs
 
-print-with-requires : tie.Need-print-with-requires Inv-loop μ-loop
-print-with-requires c κs = search needs
+print-row-requires : tie.Need-print-row-requires Inv-loop μ-loop
+print-row-requires c κs = search needs
 
-add-i : tie.Need-add-i Inv-loop μ-loop
-add-i c = search needs
+add-row : tie.Need-add-row Inv-loop μ-loop
+add-row c = search needs
 
 loop-less : tie.Need-loop-less Inv-loop μ-loop
 loop-less c = search needs
@@ -33,15 +33,15 @@ same-length c = search needs
 returns : tie.Need-returns Inv-loop μ-loop
 returns c = search needs
 
-pub print-faults-spec : {M : Type 1} → statement M
-print-faults-spec =
+pub print-run-spec : {M : Type 1} → statement M
+print-run-spec =
     tie.close
     (tie.spec
     Inv-loop
     μ-loop
     loop-holds
-    print-with-requires
-    add-i
+    print-row-requires
+    add-row
     loop-less
     loop-again
     same-length

@@ -1,25 +1,25 @@
--- `replay_ktx::print_cuts` is safe and ends. Assumes nothing.
+-- `replay_plates::print_run` is safe and ends. Assumes nothing.
 use mathlib.Core.Path.{_≡_}
 use Prim.Native.Nat.{_-_, _≤_}
 use lib.ListN.{length}
 use borrow.Author.Needs.{needs}
-use Rattle.replay_ktx.proofs.print_cuts.Statement.{statement}
-use Rattle.replay_ktx.proofs.print_cuts.Tie as tie
+use Rattle.replay_plates.proofs.print_run.Statement.{statement}
+use Rattle.replay_plates.proofs.print_run.Tie as tie
 
 abbrev Inv-loop : tie.InvT-loop
-Inv-loop bytes₀ len₀ bytes len = (len ≤ 115) × (length bytes ≡ length bytes₀)
+Inv-loop kind n bytes₀ row₀ bytes row = (row ≤ n) × (length bytes ≡ length bytes₀)
 
 abbrev μ-loop : tie.MeasureT-loop
-μ-loop bytes₀ len₀ bytes len = 115 - len
+μ-loop kind n bytes₀ row₀ bytes row = n - row
 
 loop-holds : tie.Need-loop-holds Inv-loop μ-loop
 loop-holds c = search needs
 
-print-cut-requires : tie.Need-print-cut-requires Inv-loop μ-loop
-print-cut-requires c κs = search needs
+print-row-requires : tie.Need-print-row-requires Inv-loop μ-loop
+print-row-requires c κs = search needs
 
-add-len : tie.Need-add-len Inv-loop μ-loop
-add-len c = search needs
+add-row : tie.Need-add-row Inv-loop μ-loop
+add-row c = search needs
 
 loop-less : tie.Need-loop-less Inv-loop μ-loop
 loop-less c = search needs
@@ -33,15 +33,15 @@ same-length c = search needs
 returns : tie.Need-returns Inv-loop μ-loop
 returns c = search needs
 
-pub print-cuts-spec : {M : Type 1} → statement M
-print-cuts-spec =
+pub print-run-spec : {M : Type 1} → statement M
+print-run-spec =
     tie.close
     (tie.spec
     Inv-loop
     μ-loop
     loop-holds
-    print-cut-requires
-    add-len
+    print-row-requires
+    add-row
     loop-less
     loop-again
     same-length
