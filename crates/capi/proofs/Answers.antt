@@ -85,10 +85,12 @@ module _ {refusal v : ℕ} (value field : ℕ) where
 
 -- of a PVR file
 module _ (file : List ℕ) (field : ℕ) {r : Header} (p : HeaderRead file r) where
-  pub field-of-refused : {f : HeaderRefusal} {n v : ℕ} → r ≡ Refused f → n ≡ header.numberOf f → v ≡ cond (eqb field 0) n 0 → v ≡ headerField file field
+  pub field-of-refused : {f : HeaderRefusal} {n v : ℕ} → r ≡ Refused f → n ≡ header.numberOf f → v ≡ cond (eqb field 0) n 0
+      → v ≡ headerField file field
   field-of-refused {f} e q = of-refused _ field (q ∙ sym (ap headerNumber e) ∙ p .number) (omega (arith, number-above f))
 
-  pub field-of-plate : (w h at : ℕ) (two : Bool) {v : ℕ} → r ≡ Plate w h two at → v ≡ plateField w h (bitsOf two) at field → v ≡ headerField file field
+  pub field-of-plate : (w h at : ℕ) (two : Bool) {v : ℕ} → r ≡ Plate w h two at → v ≡ plateField w h (bitsOf two) at field
+      → v ≡ headerField file field
   field-of-plate w h at two e q =
       let read : PlateRead file w h two at = of-plate (rw e at p) in
       let same = rw (read .width, read .height, read .depth, read .payload) at q in

@@ -34,8 +34,8 @@ data-is file start payload e =
     (lt-or-le payload (length file))
 
 -- the parts of an answer may be replaced by equal ones
-pub answered-same : {n m : ℕ} {p q : Picture} {d e image image' out out' : List ℕ} {r : ℕ} → n ≡ m → p ≡ q → d ≡ e → Answered n p d image image' out out' r
-    → Answered m q e image image' out out' r
+pub answered-same : {n m : ℕ} {p q : Picture} {d e image image' out out' : List ℕ} {r : ℕ} → n ≡ m → p ≡ q → d ≡ e
+    → Answered n p d image image' out out' r → Answered m q e image image' out out' r
 answered-same en ep ed a = rw (← en, ← ep, ← ed) a
 
 module _ (file : List ℕ) {reading : Reading} (read : reading ≡ readingOf (saysOf file)) where

@@ -93,7 +93,8 @@ otherSize s = not (fitsSize (s .size) (need (pictureOf s)))
 abbrev pub limitChecks : Stored → List Check
 limitChecks s =
     let p = pictureOf s in
-    check (longSkipped s) 21 ∷ check (s .cut) 37 ∷ check (zeroSide p) 1 ∷ check (longSide p) 22 ∷ check (largeNeed p) 23 ∷ check (otherSize s) 36 ∷ []
+    check (longSkipped s) 21
+    ∷ check (s .cut) 37 ∷ check (zeroSide p) 1 ∷ check (longSide p) 22 ∷ check (largeNeed p) 23 ∷ check (otherSize s) 36 ∷ []
 
 -- What the block call can still refuse past them: the data, and then the grid.
 abbrev pub payloadChecks : Picture → (len : ℕ) → List Check

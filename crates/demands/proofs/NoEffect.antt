@@ -31,7 +31,8 @@ use Rattle.demands.proofs.Later as later
 use Rattle.demands.specs.NoEffect.{SameButFlags, SameProgram, NothingElse, LaterUnread}
 
 -- two files that say the same, and whose data has the same length, are refused alike
-pub same-refusal : (f g : List ℕ) → SameSays (saysOf f) (saysOf g) → length (levelData f) ≡ length (levelData g) → programRefusal f ≡ programRefusal g
+pub same-refusal : (f g : List ℕ) → SameSays (saysOf f) (saysOf g) → length (levelData f) ≡ length (levelData g)
+    → programRefusal f ≡ programRefusal g
 same-refusal f g says even =
     header-first f
     ∙ ap₂ (λ (h n : ℕ). cond (eqb h 0) n h) (says .number) (own-same (says .plate) even)
@@ -129,7 +130,8 @@ module _ {f g : List ℕ} (s : SameButIgnored f g) where
       ∙ sym (ap (λ (t : Says). drop (t .plate .payload) g) (as-ktx g (sym same-ktx-kind ∙ e)))
 
 -- what C is told of a picture, where the header and the data are the same
-same-wrote : {f g old new : List ℕ} {n : ℕ} → KtxHeader f g → ktx-picture.levelData f ≡ ktx-picture.levelData g → WroteKtx f old new n → WroteKtx g old new n
+same-wrote : {f g old new : List ℕ} {n : ℕ} → KtxHeader f g → ktx-picture.levelData f ≡ ktx-picture.levelData g
+    → WroteKtx f old new n → WroteKtx g old new n
 same-wrote {old = old} h d a =
     let e = ktx.same-refusal h (ap length d) (length old) in
     record { number = a .number ∙ e; words = a .words ∙ ktx.words-alike old e (ktx.same-picture h) d }

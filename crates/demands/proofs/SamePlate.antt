@@ -37,7 +37,8 @@ use Rattle.demands.proofs.Program.{block-accepted, is-tga}
 use Rattle.demands.proofs.Seen.{moved-block}
 
 -- data of two runs that agree in the bytes that a picture needs
-module _ (p : Picture) (d e : List ℕ) (hd : need p ≤ length d) (he : need p ≤ length e) (same : (i : ℕ) → i < need p → getD d i 0 ≡ getD e i 0) where
+module _ (p : Picture) (d e : List ℕ) (hd : need p ≤ length d) (he : need p ≤ length e)
+    (same : (i : ℕ) → i < need p → getD d i 0 ≡ getD e i 0) where
   abbrev front : List ℕ → List ℕ
   front l = take (need p) l
 
@@ -86,8 +87,8 @@ unfolding firstOf
 own-rest t len few whole fits long = simp (few, whole, fits, long)
 
 -- where the header is accepted, that is what the program says
-rest-said : (file : List ℕ) → headerRefusal file ≡ 0 → longSkipped (storedIn file) ≡ false → storedIn file .cut ≡ false → otherSize (storedIn file) ≡ false
-    → need (plateOf file) ≤ length (levelData file) → programRefusal file ≡ firstOf (restChecks (plateOf file))
+rest-said : (file : List ℕ) → headerRefusal file ≡ 0 → longSkipped (storedIn file) ≡ false → storedIn file .cut ≡ false
+    → otherSize (storedIn file) ≡ false → need (plateOf file) ≤ length (levelData file) → programRefusal file ≡ firstOf (restChecks (plateOf file))
 rest-said file accepted few whole fits has =
     header-first file ∙ rw accepted refl
     ∙ own-rest (storedIn file) (length (levelData file)) few whole fits (le-ltb (length (levelData file)) (need (plateOf file)) has)

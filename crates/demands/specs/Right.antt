@@ -34,8 +34,8 @@ pub data Gives (p : Picture) (d : List ℕ) (x y v : ℕ) : Type 0 where
   by-c-row : (old new : List ℕ) → WroteRow p d y old new 0 → x < p .width → v ≡ getD new x 0 → Gives p d x y v
   by-c-picture : (old new : List ℕ) → WrotePicture p d old new 0 → x < p .width → y < p .height → v ≡ getD new (placeIn p x y) 0 → Gives p d x y v
   -- The call on a KTX file lays it at word y × width + x, and so in C.
-  by-ktx : (file old new : List ℕ) → ktx.plateOf file ≡ p → ktx.levelData file ≡ d → KtxDecoded file old new KtxDone → x < p .width → y < p .height
-      → v ≡ getD new (placeIn p x y) 0 → Gives p d x y v
+  by-ktx : (file old new : List ℕ) → ktx.plateOf file ≡ p → ktx.levelData file ≡ d → KtxDecoded file old new KtxDone
+      → x < p .width → y < p .height → v ≡ getD new (placeIn p x y) 0 → Gives p d x y v
   by-c-ktx : (file old new : List ℕ) → ktx.plateOf file ≡ p → ktx.levelData file ≡ d → WroteKtx file old new 0 → x < p .width → y < p .height
       → v ≡ getD new (placeIn p x y) 0 → Gives p d x y v
   -- The program writes it for a file of either kind, behind the 18 bytes of the header.

@@ -64,7 +64,8 @@ start-before file more p h =
     same-start (file ++ more) file p (omega (arith, length-append file more)) h (λ i l. List·getD-append file more 0 i (omega arith))
 
 -- and so do two files of one length that are alike there, however short they are
-pub start-even : (f g p : List ℕ) → length f ≡ length g → ((i : ℕ) → i < length p → getD f i 0 ≡ getD g i 0) → startsWith f p ≡ startsWith g p
+pub start-even : (f g p : List ℕ) → length f ≡ length g → ((i : ℕ) → i < length p → getD f i 0 ≡ getD g i 0)
+    → startsWith f p ≡ startsWith g p
 start-even f g p h e =
     ⊎-elim
     (λ short. sym (too-short f p short) ∙ too-short g p (omega (arith, short)))

@@ -48,7 +48,8 @@ past-cut k e = holds-later _ _ _ (le-ltb 4096 _ (k .before .before .if1 .left)) 
 no-zero : (k : tie.After-has-zero-side) → k .has-zero-side .result ≡ zeroSide (pictureOf (k .before .before .before .before .before .args .s))
 no-zero k = k .has-zero-side .ensures ∙ ap zeroSide (k .before .picture-of .ensures)
 
-no-long : (k : tie.After-has-long-side) → k .has-long-side .result ≡ longSide (pictureOf (k .before .before .before .before .before .before .before .args .s))
+no-long : (k : tie.After-has-long-side)
+    → k .has-long-side .result ≡ longSide (pictureOf (k .before .before .before .before .before .before .before .args .s))
 no-long k = k .has-long-side .ensures ∙ ap longSide (k .before .before .before .picture-of .ensures)
 
 returns-3 : tie.Need-returns-3
