@@ -18,7 +18,6 @@ use Rattle.pvr.specs.Header.{shortHeader, notPvr, notOnePlate, headerRef
 use Rattle.pvr.specs.Reading.{pvrSays}
 use Rattle.pvr.specs.NoEffect.{hasNoEffect, SameHeader}
 use Rattle.facts.proofs.Order.{holds-here}
-use Rattle.pvr.proofs.Unique.{one-header}
 
 -- files of one length, and files that both have the header whole
 module _ (f g : List ℕ) (e : (i : ℕ) → i < headerSize → hasNoEffect i ≡ false → getD f i 0 ≡ getD g i 0) where
@@ -85,10 +84,6 @@ module _ {f g : List ℕ} (s : SameHeader f g) where
         bits = p .bits ∙ rw (same-number, same-format);
         payload = p .payload ∙ rw (same-number, same-payload);
       }
-
-  -- so both files have one answer
-  pub same-answer : {r q : Header} → HeaderRead f r → HeaderRead g q → r ≡ q
-  same-answer {r} {q} a b = one-header g r q (no-effect a) b
 
 -- and whatever follows a whole header leaves what it says
 pub says-before : (file more : List ℕ) → headerSize ≤ length file → SameSays (pvrSays (file ++ more)) (pvrSays file)
