@@ -1,11 +1,11 @@
 -- Laws of the address. Assumes nothing.
-use mathlib.Core.Path.{ap}
+use mathlib.Core.Path.{_≡_, sym, ap, _∙_}
 use Prim.Native.Nat.{ℕ, zero, suc, _+_, _*_, _/_, _%_, _^_, _≤_, _<_, min}
 use native.Mathlib.Nat.{mul-le-mul, mul-le-mul-right, pow-succ', div-add-mod}
 use native.Mathlib.Omega.{arith}
 use lib.Pow.{pow-pos}
 use Rattle.grid.specs.Grid.{log2, Power, address, Placed}
-use Rattle.grid.proofs.Powers.{min-power}
+use Rattle.grid.proofs.Powers.{log2-pow, half-power, min-power}
 
 -- a bound that needs to know nothing of the sides
 address-le : (k x y : ℕ) → address k x y ≤ 2 ^ k * (x + y)
@@ -38,3 +38,25 @@ placed gx gy x y px py lx ly hx hy =
       small-y = omega arith;
       one-above = omega arith;
     }
+
+-- what the two arms of `morton_index` compute
+pub at-side-one : (m x y : ℕ) → m ≡ 1 → x + y ≡ address (log2 m) x y
+unfolding address
+at-side-one m x y e = sym (ap (λ (n : ℕ). address (log2 n) x y) e ∙ ap (λ (k : ℕ). address k x y) (log2-pow 0))
+
+module _ (m x y : ℕ) (p : Placed m x y) (above : m ≡ 1 → ⊥) where
+  pub at-half-size : 4 * address (log2 (m / 2)) (x / 2) (y / 2) + 2 * (x % 2) + y % 2 ≡ address (log2 m) x y
+  unfolding address
+  at-half-size = sym (ap (λ (k : ℕ). address k x y) (half-power m (p .power) above .1))
+
+  -- the half-size position is placed in the grid of half the side
+  pub placed-half : Placed (m / 2) (x / 2) (y / 2)
+  placed-half =
+      let even : m ≡ 2 * 2 ^ log2 (m / 2) = p .power ∙ rw (half-power m (p .power) above .1) (omega arith) in
+      record {
+        power = half-power m (p .power) above .0;
+        small = omega (arith, p .small);
+        small-x = omega (arith, p .small-x);
+        small-y = omega (arith, p .small-y);
+        one-above = omega (arith, p .one-above);
+      }

@@ -3,7 +3,7 @@ pub mod Counts
 pub mod Interleave
 pub mod Onto
 pub mod Powers
+pub mod Quarters
 pub mod Spreading
 pub mod Torus
-pub mod Turn
 pub mod Words

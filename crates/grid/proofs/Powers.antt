@@ -45,6 +45,16 @@ is-power n t = eqb-true n (2 ^ log2 n) t
 pub power-above : (n : ℕ) → Power n → 0 < n
 power-above n p = omega (arith, pow-pos (log2 n))
 
+-- half a power above one is a power, and its logarithm one less
+pub half-power : (n : ℕ) → Power n → (n ≡ 1 → ⊥) → Power (n / 2) × (log2 n ≡ suc (log2 (n / 2)))
+half-power n p above = by (log2 n) refl
+  where
+    by : (k : ℕ) → log2 n ≡ k → Power (n / 2) × (log2 n ≡ suc (log2 (n / 2)))
+    by zero e = absurd (above (p ∙ ap (λ (i : ℕ). 2 ^ i) e))
+    by (suc k) e =
+        let half : n / 2 ≡ 2 ^ k = omega (arith, p, ap (λ (i : ℕ). 2 ^ i) e) in
+        (power-of k (n / 2) half, e ∙ ap suc (sym (ap log2 half ∙ log2-pow k)))
+
 -- the smaller of two powers is a power
 pub min-power : (m n : ℕ) → Power m → Power n → Power (min m n)
 min-power m n pm pn =

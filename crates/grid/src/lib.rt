@@ -65,20 +65,27 @@ pub fn is_power_of_two(n: usize) -> bool
     if n == 0 { false } else { n & (n - 1) == 0 }
 }
 
-// The address of block (x, y), a bit of each at a time; min_dim is the smaller side of the grid.
+// The address of block (x, y), where min_dim is the smaller side of the grid: quarter the square, then quarter the quarter. A quarter's
+// blocks follow one another, and the quarters come in this order:
+//
+//     left upper  0 | right upper 2
+//     left lower  1 | right lower 3
+//
+// Each two by two blocks are one place of a grid of half the sides. That place's address is found first, and counts four blocks each; the
+// low bits of x and y then say which of its four this block is. At side 1 there is nothing left to quarter: the squares stand in a line,
+// and what is left of the longer side counts them; of the other side 0 is left. In a grid of 4 × 4 blocks, (3, 2) is found in two steps:
+//
+//     side 2: its quarter is (1, 1), at 4 * 0 + 2 * 1 + 1 = 3: the right lower one
+//     side 4: in that quarter it is (1, 0), at 4 * 3 + 2 * 1 + 0 = 14: the right upper block
 pub fn morton_index(x: usize, y: usize, min_dim: usize) -> usize
     requires { ⌜ Placed «min_dim» x y ⌝ }
     ensures { λ r. ⌜ r ≡ address (log2 «min_dim») x y ⌝ }
 {
-    let mut offset: usize = 0;
-    let mut shift: usize = 0;
-    let mut mask: usize = 1;
-    while mask < min_dim {
-        offset |= ((y & mask) | ((x & mask) << 1)) << shift;
-        mask <<= 1;
-        shift += 1;
+    if min_dim == 1 {
+        x + y
+    } else {
+        4 * morton_index(x / 2, y / 2, min_dim / 2) + 2 * (x % 2) + y % 2
     }
-    offset | (((x | y) >> shift) << (shift * 2))
 }
 
 // The block before block c of a side, round the torus: the side divides 2^64, so the wrap does no harm.
