@@ -65,18 +65,20 @@ pub fn is_power_of_two(n: usize) -> bool
     if n == 0 { false } else { n & (n - 1) == 0 }
 }
 
-// The address of block (x, y), where min_dim is the smaller side of the grid: quarter the square, then quarter the quarter. A quarter's
-// blocks follow one another, and the quarters come in this order:
+// The address of block (x, y), where min_dim is the smaller side of the grid: quarter the square, then quarter the quarter. The blocks of
+// a quarter follow one another, and the quarters come in this order (docs/QUARTERING.md draws it):
 //
-//     left upper  0 | right upper 2
-//     left lower  1 | right lower 3
+//     0 left upper | 2 right upper
+//     1 left lower | 3 right lower
 //
-// Each two by two blocks are one place of a grid of half the sides. That place's address is found first, and counts four blocks each; the
-// low bits of x and y then say which of its four this block is. At side 1 there is nothing left to quarter: the squares stand in a line,
-// and what is left of the longer side counts them; of the other side 0 is left. In a grid of 4 × 4 blocks, (3, 2) is found in two steps:
+// Two by two blocks are one place of a grid of half the sides, at (x / 2, y / 2). That place's address is found first, and each counts four
+// blocks; then x's low bit says left or right of the four, and y's upper or lower. At side 1 a whole square is one place: what is left of
+// the longer side says which square of the line it is, and of the other side 0 is left.
 //
-//     side 2: its quarter is (1, 1), at 4 * 0 + 2 * 1 + 1 = 3: the right lower one
-//     side 4: in that quarter it is (1, 0), at 4 * 3 + 2 * 1 + 0 = 14: the right upper block
+// In a grid of 4 × 4 blocks (3, 2) is found in two steps:
+//
+//     at side 2, (1, 1) is 4 * 0 + 2 * 1 + 1 = 3: the right lower quarter
+//     at side 4, (3, 2) is 4 * 3 + 2 * 1 + 0 = 14: in that quarter the right upper block
 pub fn morton_index(x: usize, y: usize, min_dim: usize) -> usize
     requires { ⌜ Placed «min_dim» x y ⌝ }
     ensures { λ r. ⌜ r ≡ address (log2 «min_dim») x y ⌝ }

@@ -2,11 +2,10 @@
 -- function, and each answer takes the measure t. The measure is the side, which falls to its half. Assumes nothing.
 use Prim.Native.Nat.{ℕ, _^_, _<_}
 use native.Mathlib.Omega.{arith}
-use lib.Pow.{pow-pos}
 use borrow.Fn.Kinds.{In}
 use borrow.Fn.PlainCycle.{Measures, is, falls, and}
-use Rattle.grid.specs.Grid.{log2}
 use Rattle.grid.proofs.Address.{address-small, at-side-one, at-half-size, placed-half}
+use Rattle.grid.proofs.Powers.{power-above}
 use Rattle.grid.proofs.morton_index.Reads as reads
 use Rattle.grid.proofs.morton_index.Kinds as kinds
 use Rattle.grid.proofs.+morton_index.Lts-morton_index as lts
@@ -29,7 +28,7 @@ add-result t c = omega (arith, c .before .pre .1 .small-x, c .before .pre .1 .sm
 morton-index-requires : (t : ℕ) → lts.Need-morton-index-requires (asked t, reads.Post) (given t) reads.Post
 morton-index-requires t c κs =
     let p = c .before .pre .1 in
-    (omega (arith, p .power, pow-pos (log2 (c .before .args .min-dim)), c .before .pre .0), placed-half _ _ _ p (c .if1 .left))
+    (omega (arith, power-above (c .before .args .min-dim) (p .power), c .before .pre .0), placed-half _ _ _ p (c .if1 .left))
 
 -- the half-size address leaves room for two bits more
 half-small : {t : ℕ} (c : lts.After-morton-index (asked t, reads.Post) (given t) reads.Post) → c .morton-index .result < 2 ^ 33
