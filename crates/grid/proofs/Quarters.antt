@@ -17,7 +17,7 @@ in-square k x y =
 bijective-square : (k : ℕ) → Bijective (2 ^ k) (2 ^ k)
 bijective-square k = bijective (2 ^ k) (2 ^ k) (power-of k (2 ^ k) refl) (power-of k (2 ^ k) refl)
 
--- half a place is the same half's place in the quarter
+-- halving a place keeps the bit that tells its quarter, and its low bit is that of its place in the quarter
 half-of : (a k v : ℕ) → (a * 2 ^ suc k + v) / 2 ≡ a * 2 ^ k + v / 2
 half-of a k v = rw (pow-succ' 2 k) (omega arith)
 
@@ -39,8 +39,8 @@ module _ (a b : ℕ) (a-bit : a < 2) (b-bit : b < 2) where
     half-size x y hx hy =
         rw (is-left, is-top, is-start, in-square (suc k) (a * 2 ^ k + x) (b * 2 ^ k + y), in-square k x y) (high-bits k x y hx hy)
 
-    address-in : (x y : ℕ) → Among left (2 ^ k) x → Among top (2 ^ k) y → Among start (4 ^ k) (inSquare (suc k) x y)
-    address-in x y in-x in-y =
+    within : (x y : ℕ) → Among left (2 ^ k) x → Among top (2 ^ k) y → Among start (4 ^ k) (inSquare (suc k) x y)
+    within x y in-x in-y =
         let x' : ℕ = x - left in
         let y' : ℕ = y - top in
         let e : inSquare (suc k) x y ≡ start + inSquare k x' y' =
@@ -74,9 +74,9 @@ module _ (a b : ℕ) (a-bit : a < 2) (b-bit : b < 2) where
     quarter =
         record {
           half-size = half-size;
-          address = address-in;
-          column = λ z in-z. back z in-z .0;
-          row = λ z in-z. back z in-z .1;
+          within = within;
+          column-within = λ z in-z. back z in-z .0;
+          row-within = λ z in-z. back z in-z .1;
         }
 
 pub quartered : (k : ℕ) → Quartered k

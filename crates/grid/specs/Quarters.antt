@@ -16,9 +16,9 @@ pub record Among (start count n : ℕ) : Type 0 where
 -- each of its blocks has one of the 4 ^ k addresses from that start on, and each of these is a block's of this quarter.
 pub record Quarter (k left top start : ℕ) : Type 0 where
   pub half-size : (x y : ℕ) → x < 2 ^ k → y < 2 ^ k → inSquare (suc k) (left + x) (top + y) ≡ start + inSquare k x y
-  pub address : (x y : ℕ) → Among left (2 ^ k) x → Among top (2 ^ k) y → Among start (4 ^ k) (inSquare (suc k) x y)
-  pub column : (z : ℕ) → Among start (4 ^ k) z → Among left (2 ^ k) (blockColumn (2 ^ suc k) (2 ^ suc k) z)
-  pub row : (z : ℕ) → Among start (4 ^ k) z → Among top (2 ^ k) (blockRow (2 ^ suc k) (2 ^ suc k) z)
+  pub within : (x y : ℕ) → Among left (2 ^ k) x → Among top (2 ^ k) y → Among start (4 ^ k) (inSquare (suc k) x y)
+  pub column-within : (z : ℕ) → Among start (4 ^ k) z → Among left (2 ^ k) (blockColumn (2 ^ suc k) (2 ^ suc k) z)
+  pub row-within : (z : ℕ) → Among start (4 ^ k) z → Among top (2 ^ k) (blockRow (2 ^ suc k) (2 ^ suc k) z)
 
 -- The four quarters hold the addresses in this order: 0 .. 4 ^ k - 1, 4 ^ k .. 2 * 4 ^ k - 1, and so on.
 pub record Quartered (k : ℕ) : Type 0 where

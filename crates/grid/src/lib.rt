@@ -71,9 +71,9 @@ pub fn is_power_of_two(n: usize) -> bool
 //     0 left upper | 2 right upper
 //     1 left lower | 3 right lower
 //
-// Two by two blocks are one place of a grid of half the sides, at (x / 2, y / 2). That place's address is found first, and each counts four
-// blocks; then x's low bit says left or right of the four, and y's upper or lower. At side 1 a whole square is one place: what is left of
-// the longer side says which square of the line it is, and of the other side 0 is left.
+// Two by two blocks are one place of a grid of half the sides, at (x / 2, y / 2). The address of that place is found first: so many fours of
+// blocks come before. Then x's low bit says the left or the right two of its four, and y's the upper or the lower. At side 1 a whole square
+// is one place: what is left of the longer side says which square of the line it is, and of the other side 0 is left.
 //
 // In a grid of 4 × 4 blocks (3, 2) is found in two steps:
 //
