@@ -186,7 +186,7 @@ fn print_byte(byte: u8) {
     print_number(byte as u64);
 }
 
-// The ten grids, with addresses by table or bit by bit.
+// The ten grids, with addresses by table or by quartering.
 fn print_grids(by_table: bool) {
     print_grid(1, 1, by_table);
     print_grid(2, 1, by_table);

@@ -30,7 +30,7 @@ fn beside(c: usize, side: usize, k: usize) -> usize
     grid::next_block(c, side)
 }
 
-// The address of word k of the nine about block (bx, by), bit by bit.
+// The address of word k of the nine about block (bx, by), by quartering.
 fn address(g: Grid, bx: usize, by: usize, k: usize) -> usize
     requires { ⌜ Stands g (wordBytes g) × InGrid g bx by × (k < 9) ⌝ }
     ensures { λ r. ⌜ (r ≡ addressOf g bx by k) × (r < g .across * g .down) ⌝ }
