@@ -45,9 +45,9 @@ unfolding address
 at-side-one m x y e = sym (ap (λ (n : ℕ). address (log2 n) x y) e ∙ ap (λ (k : ℕ). address k x y) (log2-pow 0))
 
 module _ (m x y : ℕ) (p : Placed m x y) (above : m ≡ 1 → ⊥) where
-  pub at-half-size : 4 * address (log2 (m / 2)) (x / 2) (y / 2) + 2 * (x % 2) + y % 2 ≡ address (log2 m) x y
+  pub at-half-size : 4 * address (log2 (m / 2)) (x / 2) (y / 2) + (2 * (x % 2) + y % 2) ≡ address (log2 m) x y
   unfolding address
-  at-half-size = sym (ap (λ (k : ℕ). address k x y) (half-power m (p .power) above .1))
+  at-half-size = omega (arith, ap (λ (k : ℕ). address k x y) (half-power m (p .power) above .1))
 
   -- the half-size position is placed in the grid of half the side
   pub placed-half : Placed (m / 2) (x / 2) (y / 2)

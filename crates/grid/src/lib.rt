@@ -71,8 +71,8 @@ pub fn is_power_of_two(n: usize) -> bool
 //     0 left upper | 2 right upper
 //     1 left lower | 3 right lower
 //
-// Two by two blocks are one place of a grid of half the sides, at (x / 2, y / 2). The address of that place is found first: so many fours of
-// blocks come before. Then x's low bit says the left or the right two of its four, and y's the upper or the lower. At side 1 a whole square
+// Two by two blocks are one place of a grid of half the sides, at (x / 2, y / 2), whose address says how many fours of blocks come before. The
+// low bits say which quarter of that place the block is: x's the left or the right two, y's the upper or the lower. At side 1 a whole square
 // is one place: what is left of the longer side says which square of the line it is, and of the other side 0 is left.
 //
 // In a grid of 4 × 4 blocks (3, 2) is found in two steps:
@@ -86,7 +86,8 @@ pub fn morton_index(x: usize, y: usize, min_dim: usize) -> usize
     if min_dim == 1 {
         x + y
     } else {
-        4 * morton_index(x / 2, y / 2, min_dim / 2) + 2 * (x % 2) + y % 2
+        let quarter = 2 * (x % 2) + y % 2;
+        4 * morton_index(x / 2, y / 2, min_dim / 2) + quarter
     }
 }
 

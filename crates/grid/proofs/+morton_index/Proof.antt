@@ -25,6 +25,12 @@ asked t = and 0 kinds.ps (falls 0 kinds.ps _<_ μ t) reads.Pre
 add-result : (t : ℕ) → lts.Need-add-result (asked t, reads.Post) (given t) reads.Post
 add-result t c = omega (arith, c .before .pre .1 .small-x, c .before .pre .1 .small-y)
 
+mul-quarter : (t : ℕ) → lts.Need-mul-quarter (asked t, reads.Post) (given t) reads.Post
+mul-quarter t c = omega arith
+
+add-quarter : (t : ℕ) → lts.Need-add-quarter (asked t, reads.Post) (given t) reads.Post
+add-quarter t c = omega arith
+
 morton-index-requires : (t : ℕ) → lts.Need-morton-index-requires (asked t, reads.Post) (given t) reads.Post
 morton-index-requires t c κs =
     let p = c .before .pre .1 in
@@ -37,14 +43,8 @@ half-small c = rw (c .morton-index .ensures) (address-small _ _ _ (placed-half _
 mul-result : (t : ℕ) → lts.Need-mul-result (asked t, reads.Post) (given t) reads.Post
 mul-result t c = omega (arith, half-small c)
 
-mul-result-2 : (t : ℕ) → lts.Need-mul-result-2 (asked t, reads.Post) (given t) reads.Post
-mul-result-2 t c = omega arith
-
 add-result-2 : (t : ℕ) → lts.Need-add-result-2 (asked t, reads.Post) (given t) reads.Post
 add-result-2 t c = omega (arith, half-small c)
-
-add-result-3 : (t : ℕ) → lts.Need-add-result-3 (asked t, reads.Post) (given t) reads.Post
-add-result-3 t c = omega (arith, half-small c)
 
 returns : (t : ℕ) → lts.Need-returns (asked t, reads.Post) (given t) reads.Post
 returns t c = at-side-one _ _ _ (c .if1 .taken)
@@ -61,10 +61,10 @@ pub +morton-index-spec : {M : Type 1} → statement M
     (given t)
     reads.Post
     (add-result t)
+    (mul-quarter t)
+    (add-quarter t)
     (morton-index-requires t)
     (mul-result t)
-    (mul-result-2 t)
     (add-result-2 t)
-    (add-result-3 t)
     (returns t)
     (returns-2 t))
