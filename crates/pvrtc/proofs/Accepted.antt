@@ -2,6 +2,7 @@
 use mathlib.Core.Path.{_≡_, refl}
 use mathlib.Core.Bool.{false, not}
 use Prim.Native.Nat.{ℕ, _*_, _/_, _≤_, _<_}
+use native.Mathlib.Nat.{lt-of-lt-of-le}
 use native.Mathlib.Omega.{arith}
 use lib.Dec.{eqb, ltb, leb}
 use borrow.Author.Tests.{eqb-false, ltb-false, leb-false, lt-leb, not-false}
@@ -17,6 +18,7 @@ use Rattle.pvrtc.specs.declared.Call.{Call}
 use Rattle.pvrtc.specs.declared.Call.the-variants as call
 use Rattle.pvrtc.specs.declared.Picture.{Picture}
 use Rattle.pvrtc.specs.Picture.{across, down, gridOf}
+use Rattle.pvrtc.proofs.Modes.{side-covers, side-small}
 use Rattle.pvrtc.specs.Refusals.{need, zeroSide, largeSide, shortData, shortImage, notPower, outside, checks}
 
 -- no condition of a refusal holds
@@ -58,12 +60,21 @@ module _ (p : Picture) where
         let n : p .height ≡ 0 → ⊥ = eqb-false (p .height) 0 (or-right (eqb (p .width) 0) _ e) in
         omega arith
 
--- no side has more blocks than its texels
-pub few-across : (p : Picture) → largeSide p ≡ false → across p ≤ 65536
-few-across p e = omega (arith, blocks-le (blockWidth (p .is2bpp)) (p .width) (wide (p .is2bpp)), width-small p e)
+-- no side has more blocks than its texels, or than two
+pub few-across : (p : Picture) → largeSide p ≡ false → gridOf p .across ≤ 65536
+few-across p e =
+    side-small (p .mode) (across p) 65536 (omega arith)
+    (omega (arith, blocks-le (blockWidth (p .is2bpp)) (p .width) (wide (p .is2bpp)), width-small p e))
 
-pub few-down : (p : Picture) → largeSide p ≡ false → down p ≤ 65536
-few-down p e = omega (arith, blocks-le 4 (p .height) (omega arith), height-small p e)
+pub few-down : (p : Picture) → largeSide p ≡ false → gridOf p .down ≤ 65536
+few-down p e = side-small (p .mode) (down p) 65536 (omega arith) (omega (arith, blocks-le 4 (p .height) (omega arith), height-small p e))
+
+-- the grid has the blocks that cover the picture
+pub covers-across : (p : Picture) → across p ≤ gridOf p .across
+covers-across p = side-covers (p .mode) (across p)
+
+pub covers-down : (p : Picture) → down p ≤ gridOf p .down
+covers-down p = side-covers (p .mode) (down p)
 
 -- both sides of the grid are powers of two
 pub power-across : (p : Picture) → notPower p ≡ false → Power (gridOf p .across)
@@ -88,8 +99,8 @@ module _ {p : Picture} {c : Call} {len : ℕ} (a : Accepted p c len) where
   pub block-in : (x y : ℕ) → x < p .width → y < p .height → InGrid (gridOf p) (x / blockWidth (p .is2bpp)) (y / 4)
   block-in x y hx hy =
       record {
-        across = block-below (blockWidth (p .is2bpp)) (p .width) (wide (p .is2bpp)) x hx;
-        down = block-below 4 (p .height) (omega arith) y hy;
+        across = lt-of-lt-of-le (block-below (blockWidth (p .is2bpp)) (p .width) (wide (p .is2bpp)) x hx) (covers-across p);
+        down = lt-of-lt-of-le (block-below 4 (p .height) (omega arith) y hy) (covers-down p);
       }
 
   -- the same of its grid by another name

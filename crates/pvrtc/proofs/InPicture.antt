@@ -25,7 +25,7 @@ use Rattle.pvrtc.specs.declared.Picture.{Picture}
 use Rattle.pvrtc.specs.Calls.{refusal}
 use Rattle.pvrtc.specs.Inner.{blockWords, blockTexel}
 use Rattle.pvrtc.specs.Picture.{gridOf, sheetOf, pictureTexel}
-use Rattle.pvrtc.proofs.Accepted.{Accepted, accepted, stands-as, block-roomy, height-above}
+use Rattle.pvrtc.proofs.Accepted.{Accepted, accepted, stands-as, block-roomy, height-above, covers-across, covers-down}
 
 -- word (x, y) of the buffer is that texel of the middle block
 in-buffer : (two : Bool) (nine : List PVRTCTexelInfo) (x y : ℕ) → x < blockWidth two → y < 4
@@ -95,8 +95,8 @@ module _ {p : Picture} {d old : List ℕ} {g : Grid} {s : Sheet} {n : ℕ} (k : 
       row-ready el =
           record {
             words = stands-as ok (k .grid);
-            down = rw (k .grid, ← ap (λ (s : Sheet). blocks 4 (s .height)) (k .sheet), ← k .rows) h;
-            cover = rw (er, k .grid, k .sheet) (omega arith);
+            down = rw (k .grid) (omega (arith, h, k .rows, ap (λ (s : Sheet). blocks 4 (s .height)) (k .sheet), covers-down p));
+            cover = rw (er, k .grid, k .sheet) (covers-across p);
             few = rw er (omega arith);
             fits = rw (er, el) (rows-fit sheet-fits (by * 4) 4 starts);
           }

@@ -1,6 +1,7 @@
 // The block call, row of blocks by row of blocks, under the Rust's names and over a picture's description.
 use crate::Call;
 use crate::Decoded;
+use crate::GridMode;
 use crate::Picture;
 use crate::check::check;
 use crate::layout::grid_of;
@@ -26,27 +27,40 @@ pub fn decode_picture(data: &[u8], p: Picture, image: &mut [u32]) -> Decoded
     Decoded::Done
 }
 
-// The same by the Rust's names and parameters.
+// The same by the Rust's names and parameters, and the mode.
 pub fn decode_pvrtc(
     data: &[u8],
     width: usize,
     height: usize,
     image: &mut [u32],
     is2bpp: bool,
+    mode: GridMode,
 ) -> Decoded
-    ensures { λ r. ⌜ BlockDecoded (picture width height is2bpp) (now («data» .entry)) (now (image .entry)) (now (image .exit)) r ⌝ }
+    ensures { λ r. ⌜ BlockDecoded (picture width height is2bpp mode) (now («data» .entry)) (now (image .entry)) (now (image .exit)) r ⌝ }
 {
-    decode_picture(data, picture_of(width, height, is2bpp), image)
+    decode_picture(data, picture_of(width, height, is2bpp, mode), image)
 }
 
-pub fn decode_pvrtc_2bpp(data: &[u8], width: usize, height: usize, image: &mut [u32]) -> Decoded
-    ensures { λ r. ⌜ BlockDecoded (picture width height true) (now («data» .entry)) (now (image .entry)) (now (image .exit)) r ⌝ }
+pub fn decode_pvrtc_2bpp(
+    data: &[u8],
+    width: usize,
+    height: usize,
+    image: &mut [u32],
+    mode: GridMode,
+) -> Decoded
+    ensures { λ r. ⌜ BlockDecoded (picture width height true mode) (now («data» .entry)) (now (image .entry)) (now (image .exit)) r ⌝ }
 {
-    decode_pvrtc(data, width, height, image, true)
+    decode_pvrtc(data, width, height, image, true, mode)
 }
 
-pub fn decode_pvrtc_4bpp(data: &[u8], width: usize, height: usize, image: &mut [u32]) -> Decoded
-    ensures { λ r. ⌜ BlockDecoded (picture width height false) (now («data» .entry)) (now (image .entry)) (now (image .exit)) r ⌝ }
+pub fn decode_pvrtc_4bpp(
+    data: &[u8],
+    width: usize,
+    height: usize,
+    image: &mut [u32],
+    mode: GridMode,
+) -> Decoded
+    ensures { λ r. ⌜ BlockDecoded (picture width height false mode) (now («data» .entry)) (now (image .entry)) (now (image .exit)) r ⌝ }
 {
-    decode_pvrtc(data, width, height, image, false)
+    decode_pvrtc(data, width, height, image, false, mode)
 }

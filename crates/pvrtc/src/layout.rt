@@ -1,18 +1,30 @@
 // A picture's description: how it is made, the grid that holds its words, and the sheet that its texels go to.
+use crate::GridMode;
 use crate::Picture;
 ghost use mathlib.Core.Path.{_≡_};
-ghost use Rattle.pvrtc.specs.Picture.{picture, gridOf, sheetOf};
+ghost use Rattle.pvrtc.specs.Picture.{picture, sideIn, gridOf, sheetOf};
 use grid::Grid;
 use paint::Sheet;
 
-// The description of a picture as the Rust takes it.
-pub fn picture_of(width: usize, height: usize, is2bpp: bool) -> Picture
-    ensures { λ r. ⌜ r ≡ picture width height is2bpp ⌝ }
+// The description of a picture as the Rust takes it, and the mode.
+pub fn picture_of(width: usize, height: usize, is2bpp: bool, mode: GridMode) -> Picture
+    ensures { λ r. ⌜ r ≡ picture width height is2bpp mode ⌝ }
 {
     Picture {
         width: width,
         height: height,
         is2bpp: is2bpp,
+        mode: mode,
+    }
+}
+
+// The blocks along a side of a grid, where `cover` blocks cover the picture.
+fn side_in(mode: GridMode, cover: usize) -> usize
+    ensures { λ r. ⌜ r ≡ sideIn mode cover ⌝ }
+{
+    match mode {
+        GridMode::Rust => cover,
+        GridMode::Stored => if cover < 2 { 2 } else { cover },
     }
 }
 
@@ -20,9 +32,10 @@ pub fn picture_of(width: usize, height: usize, is2bpp: bool) -> Picture
 pub fn grid_of(p: Picture) -> Grid
     ensures { λ r. ⌜ r ≡ gridOf p ⌝ }
 {
+    let mode = p.mode;
     Grid {
-        across: grid::num_blocks_x(p.width, p.is2bpp),
-        down: grid::num_blocks_y(p.height),
+        across: side_in(mode, grid::num_blocks_x(p.width, p.is2bpp)),
+        down: side_in(mode, grid::num_blocks_y(p.height)),
         is2bpp: p.is2bpp,
     }
 }

@@ -41,11 +41,19 @@ pub enum Texel {
     Refused(Refusal),
 }
 
+// How many blocks a picture's grid has: as many as the Rust counts, those that cover the picture; or as many as files store, two each way
+// at least.
+pub enum GridMode {
+    Rust,
+    Stored,
+}
+
 // The description of a picture. `picture_of` makes one; its grid and its sheet are `layout`'s.
 pub struct Picture {
     pub width: usize,
     pub height: usize,
     pub is2bpp: bool,
+    pub mode: GridMode,
 }
 
 // Which call is made, with what it asks for: a texel; a row of lent words; all blocks into lent words.
