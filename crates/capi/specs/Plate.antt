@@ -12,11 +12,17 @@ use Rattle.pvr.specs.Header.{headerRefusal, widthField, heightField, isTwo, pay
 use Rattle.pvrtc.specs.Calls.{refusal}
 use Rattle.pvrtc.specs.Picture.{picture, sheetOf, pictureTexel}
 use Rattle.pvrtc.specs.declared.Call.the-variants as call
+use Rattle.pvrtc.specs.declared.GridMode.{GridMode}
+use Rattle.pvrtc.specs.declared.GridMode.the-variants.{Rust, Stored}
 use Rattle.pvrtc.specs.declared.Picture.{Picture}
 
+-- Mode 0 is the Rust's, any other number the stored one.
+abbrev pub modeOf : ℕ → GridMode
+modeOf mode = cond (eqb mode 0) Rust Stored
+
 -- Depth 0 is 4bpp, any other number 2bpp.
-abbrev pub plate : ℕ → ℕ → ℕ → Picture
-plate width height depth = picture width height (not (eqb depth 0))
+abbrev pub plate : (width height depth mode : ℕ) → Picture
+plate width height depth mode = picture width height (not (eqb depth 0)) (modeOf mode)
 
 -- The texel in the low 32 bits, the refusal's number above, and the texel 0 when refused.
 abbrev pub texelAnswer : Picture → List ℕ → ℕ → ℕ → ℕ

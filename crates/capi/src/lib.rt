@@ -4,21 +4,34 @@ ghost use mathlib.Core.Bool.{cond};
 ghost use lib.Dec.{eqb};
 ghost use Rattle.files.specs.Fields.{bitsOf};
 ghost use Rattle.pvrtc.specs.Refusals.{decodedNumber};
-ghost use Rattle.capi.specs.Plate.{plate, texelAnswer, WroteRow, WrotePicture, headerField, plateField, sizedField};
+ghost use Rattle.capi.specs.Plate.{modeOf, plate, texelAnswer, WroteRow, WrotePicture, headerField, plateField, sizedField};
 ghost use Rattle.capi.specs.Ktx.{ktxField, WroteKtx};
 use pvr::Header;
 use pvrtc::Decoded;
+use pvrtc::GridMode;
 use pvrtc::Picture;
 use pvrtc::Texel;
 
+// The mode by C's number: 0 is the Rust's, any other the stored one.
+fn mode_of(mode: u32) -> GridMode
+    ensures { λ r. ⌜ r ≡ modeOf mode ⌝ }
+{
+    if mode == 0 {
+        GridMode::Rust
+    } else {
+        GridMode::Stored
+    }
+}
+
 // The description of a picture by C's numbers: depth 0 is 4bpp, any other 2bpp.
-fn picture_of(width: u64, height: u64, depth: u32) -> Picture
-    ensures { λ r. ⌜ r ≡ plate width height depth ⌝ }
+fn picture_of(width: u64, height: u64, depth: u32, mode: u32) -> Picture
+    ensures { λ r. ⌜ r ≡ plate width height depth mode ⌝ }
 {
     Picture {
         width: width as usize,
         height: height as usize,
         is2bpp: depth != 0,
+        mode: mode_of(mode),
     }
 }
 
@@ -29,12 +42,13 @@ pub extern "C" fn plate_texel(
     width: u64,
     height: u64,
     depth: u32,
+    mode: u32,
     x: u64,
     y: u64,
 ) -> u64
-    ensures { λ r. ⌜ r ≡ texelAnswer (plate width height depth) (now («data» .entry)) x y ⌝ }
+    ensures { λ r. ⌜ r ≡ texelAnswer (plate width height depth mode) (now («data» .entry)) x y ⌝ }
 {
-    let p = picture_of(width, height, depth);
+    let p = picture_of(width, height, depth, mode);
     let answer = pvrtc::decode_texel(data, p, x as usize, y as usize);
     match answer {
         Texel::Word(word) => word as u64,
@@ -59,12 +73,13 @@ pub extern "C" fn plate_row(
     width: u64,
     height: u64,
     depth: u32,
+    mode: u32,
     y: u64,
     row: &mut [u32],
 ) -> u64
-    ensures { λ r. ⌜ WroteRow (plate width height depth) (now («data» .entry)) y (now (row .entry)) (now (row .exit)) r ⌝ }
+    ensures { λ r. ⌜ WroteRow (plate width height depth mode) (now («data» .entry)) y (now (row .entry)) (now (row .exit)) r ⌝ }
 {
-    let p = picture_of(width, height, depth);
+    let p = picture_of(width, height, depth, mode);
     number_of(pvrtc::decode_row(data, p, y as usize, row))
 }
 
@@ -75,11 +90,12 @@ pub extern "C" fn plate_picture(
     width: u64,
     height: u64,
     depth: u32,
+    mode: u32,
     image: &mut [u32],
 ) -> u64
-    ensures { λ r. ⌜ WrotePicture (plate width height depth) (now («data» .entry)) (now (image .entry)) (now (image .exit)) r ⌝ }
+    ensures { λ r. ⌜ WrotePicture (plate width height depth mode) (now («data» .entry)) (now (image .entry)) (now (image .exit)) r ⌝ }
 {
-    number_of(pvrtc::decode_picture(data, picture_of(width, height, depth), image))
+    number_of(pvrtc::decode_picture(data, picture_of(width, height, depth, mode), image))
 }
 
 // A field of a PVR file's header.

@@ -13,7 +13,8 @@ use Rattle.grid.specs.Grid.{blockWidth}
 use Rattle.grid.proofs.Counts.{wide, blocks-cover}
 use Rattle.pvrtc.specs.declared.Call.the-variants as call
 use Rattle.pvrtc.specs.declared.Picture.{Picture}
-use Rattle.pvrtc.specs.Picture.{across, down}
+use Rattle.pvrtc.proofs.Accepted.{covers-across, covers-down}
+use Rattle.pvrtc.specs.Picture.{across, down, gridOf}
 use Rattle.pvrtc.specs.Refusals.{need, zeroSide, largeSide, shortImage, outside, checks}
 use Rattle.convert.specs.Inner.{TgaFits}
 use Rattle.files.specs.declared.Stored.{Stored}
@@ -68,8 +69,9 @@ pub few-words : (p : Picture) → largeNeed p ≡ false → p .width * p .height
 few-words p e =
     let x : p .width ≤ across p * blockWidth (p .is2bpp) = blocks-cover (blockWidth (p .is2bpp)) (p .width) (wide (p .is2bpp)) in
     let y : p .height ≤ down p * 4 = blocks-cover 4 (p .height) (omega arith) in
+    let held : across p * down p ≤ gridOf p .across * gridOf p .down = mul-le-mul (covers-across p) (covers-down p) in
     let n : need p ≤ needLimit = ltb-false needLimit (need p) e in
-    omega (arith, mul-le-mul x y, mul-le-mul-left (across p * down p) (narrow (p .is2bpp)), n)
+    omega (arith, mul-le-mul x y, mul-le-mul-left (across p * down p) (narrow (p .is2bpp)), held, n)
 
 -- what the block call says of a plate that keeps the limits, into enough words: that the data is short, or that the blocks are no power of two
 pub call-says : (p : Picture) (room len : ℕ) → zeroSide p ≡ false → longSide p ≡ false → p .width * p .height ≤ room

@@ -19,6 +19,7 @@ use Rattle.ktx.specs.Header as ktx
 use Rattle.ktx.specs.Reading.{ktxSays}
 use Rattle.pvrtc.specs.Picture.{picture, sheetOf, pictureTexel}
 use Rattle.pvrtc.specs.Refusals.{need, zeroSide, dataChecks, gridChecks}
+use Rattle.pvrtc.specs.declared.GridMode.the-variants as mode
 use Rattle.pvrtc.specs.declared.Picture.{Picture}
 
 -- The first bytes of a file that is taken as KTX: AB 4B 54 58.
@@ -41,9 +42,9 @@ headerRefusal file = firstOf (saysOf file .refusals)
 abbrev pub storedIn : List ℕ → Stored
 storedIn file = saysOf file .plate
 
--- A stored plate's picture, and that of a file.
+-- A stored plate's picture, with the stored grid, and that of a file.
 abbrev pub pictureOf : Stored → Picture
-pictureOf s = picture (s .width) (s .height) (s .is2bpp)
+pictureOf s = picture (s .width) (s .height) (s .is2bpp) mode.Stored
 
 abbrev pub plateOf : List ℕ → Picture
 plateOf file = pictureOf (storedIn file)

@@ -12,6 +12,7 @@ ghost use Rattle.convert.specs.Inner.{PlateConverted, Laid, TgaFits};
 use files::Reading;
 use files::Stored;
 use pvrtc::Decoded;
+use pvrtc::GridMode;
 use pvrtc::Picture;
 
 // The first bytes of a file that is taken as KTX.
@@ -27,10 +28,11 @@ fn read_file(file: &[u8]) -> Reading
     pvr::read_plate(file)
 }
 
+// The picture of a stored plate, with the grid that files store.
 fn picture_of(s: Stored) -> Picture
     ensures { λ r. ⌜ r ≡ pictureOf s ⌝ }
 {
-    pvrtc::picture_of(s.width, s.height, s.is2bpp)
+    pvrtc::picture_of(s.width, s.height, s.is2bpp, GridMode::Stored)
 }
 
 fn has_long_side(p: Picture) -> bool

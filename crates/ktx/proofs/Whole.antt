@@ -15,6 +15,7 @@ use Rattle.pvrtc.specs.Picture.{picture}
 use Rattle.pvrtc.specs.Refusals.{need}
 use Rattle.pvrtc.specs.declared.Call.the-variants.{Block}
 use Rattle.pvrtc.specs.declared.Decoded.{Decoded as Called}
+use Rattle.pvrtc.specs.declared.GridMode.the-variants.{Stored}
 use Rattle.pvrtc.specs.declared.Picture.{Picture}
 use Rattle.ktx.specs.declared.Decoded.{Decoded}
 use Rattle.ktx.specs.declared.Decoded.the-variants.{Unread}
@@ -58,11 +59,11 @@ module _ (file old : List ℕ) {header : Header} (read : HeaderRead file header)
     within = omega (arith, payload-within file (plate .accepted), plate .payload)
 
     -- it is accepted: what is said of its picture
-    pub by-picture : {new : List ℕ} {r : Decoded} → SizedDecoded (picture w h two) size (take (length file - at) (drop at file)) old new r
+    pub by-picture : {new : List ℕ} {r : Decoded} → SizedDecoded (picture w h two Stored) size (take (length file - at) (drop at file)) old new r
         → KtxDecoded file old new r
     by-picture {new} {r} a = record { number = b .number ∙ sym speaks; words = rw speaks (b .words) }
       where
-        same-plate : picture w h two ≡ plateOf file
+        same-plate : picture w h two Stored ≡ plateOf file
         same-plate = rw (plate .width, plate .height, plate .depth)
 
         same-data : take (length file - at) (drop at file) ≡ levelData file

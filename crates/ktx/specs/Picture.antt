@@ -11,14 +11,15 @@ use Rattle.pvrtc.specs.Picture.{picture, sheetOf, pictureTexel}
 use Rattle.pvrtc.specs.Refusals as call
 use Rattle.pvrtc.specs.Refusals.{need, sizeChecks, dataChecks, roomChecks, gridChecks}
 use Rattle.pvrtc.specs.declared.Call.the-variants.{Block}
+use Rattle.pvrtc.specs.declared.GridMode.the-variants.{Stored}
 use Rattle.pvrtc.specs.declared.Picture.{Picture}
 use Rattle.ktx.specs.Header.{widthField, heightField, isTwo, sizeWord, payloadOffset, headerChecks, numberOf}
 use Rattle.ktx.specs.declared.Decoded.{Decoded}
 use Rattle.ktx.specs.declared.Decoded.the-variants.{Done, Unread, OtherSize, Refused}
 
--- The plate that a header describes.
+-- The plate that a header describes. A file has the stored grid.
 abbrev pub plateOf : List ℕ → Picture
-plateOf file = picture (widthField file) (heightField file) (isTwo file)
+plateOf file = picture (widthField file) (heightField file) (isTwo file) Stored
 
 -- The data of level 0 follows the size word.
 abbrev pub levelData : List ℕ → List ℕ

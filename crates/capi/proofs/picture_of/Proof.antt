@@ -1,0 +1,13 @@
+-- `capi::picture_of` meets its contract. Assumes nothing.
+use borrow.Author.Needs.{needs}
+use Rattle.capi.proofs.picture_of.Statement.{statement}
+use Rattle.capi.proofs.picture_of.Tie as tie
+
+mode-of-requires : tie.Need-mode-of-requires
+mode-of-requires c κs = search needs
+
+returns : tie.Need-returns
+returns c = rw (c .mode-of .ensures)
+
+pub picture-of-spec : {M : Type 1} → statement M
+picture-of-spec = tie.close (tie.spec mode-of-requires returns)
