@@ -7,6 +7,7 @@ pub mod Local
 pub mod LocalCalls
 pub mod LocalFiles
 pub mod Member
+pub mod Modes
 pub mod NoEffect
 pub mod Numbers
 pub mod Orders

@@ -3,26 +3,28 @@ use mathlib.Core.Path.{sym}
 use mathlib.Core.Bool.{Bool}
 use mathlib.Core.List.{List·Memᴰ, Memᴰ·cast}
 use mathlib.Core.Logic.{⊎-elim}
-use Prim.Native.Nat.{ℕ, _*_, _<_}
+use Prim.Native.Nat.{ℕ, _*_, _≤_, _<_}
+use native.Mathlib.Nat.{mul-le-mul-right}
 use native.Mathlib.Omega.{arith}
 use Rattle.facts.proofs.Lists.{in-or-not}
 use Rattle.grid.specs.Grid.{blockWidth, blocks, Power}
 use Rattle.grid.proofs.Counts.{blocks-cover}
 use Rattle.texel.proofs.Shares.{half-low}
+use Rattle.demands.specs.Damage.{spot}
 use Rattle.demands.specs.Footprint.{footprint}
 use Rattle.demands.specs.Local.{Covers, Local}
 use Rattle.demands.proofs.Damage.{damaged-size, damaged-listed, damaged-all, damaged-once}
 use Rattle.demands.proofs.Member.{footprint-some, footprint-few, footprint-rising, footprint-within, footprint-enough}
 use Rattle.demands.proofs.Told.{told}
 
--- the grid of a picture, its sides divided and rounded up, covers it
-pub covers : (two : Bool) (w h : ℕ) → Power (blocks (blockWidth two) w) → Power (blocks 4 h) → Covers two (blocks (blockWidth two) w) (blocks 4 h) w h
-covers two w h px py =
+-- a grid that has the blocks of a picture, its sides divided and rounded up, covers it
+pub covers : (two : Bool) (gx gy w h : ℕ) → Power gx → Power gy → blocks (blockWidth two) w ≤ gx → blocks 4 h ≤ gy → Covers two gx gy w h
+covers two gx gy w h px py hx hy =
     record {
       power-across = px;
       power-down = py;
-      across = blocks-cover (blockWidth two) w (omega (arith, half-low two));
-      down = blocks-cover 4 h (omega arith);
+      across = omega (arith, blocks-cover (blockWidth two) w (omega (arith, half-low two)), mul-le-mul-right (blockWidth two) hx);
+      down = omega (arith, blocks-cover 4 h (omega arith), hy);
     }
 
 pub local : (two : Bool) (gx gy w h : ℕ) → Covers two gx gy w h → Local two gx gy w h
@@ -45,6 +47,7 @@ local two gx gy w h c =
           (λ n. absurd (differ (footprint-enough two gx gy x y d d' (λ b m. same b (within x y b m) (λ e. n (Memᴰ·cast (sym e) m))))))
           (in-or-not z (footprint two gx gy x y));
       listed = λ x y z lx ly m. listed x y z (omega arith) (omega arith) m;
+      drawn = λ x y z lz m. damaged-all two gx gy px py z lz (spot x y) m .2;
       once = λ whole. damaged-once two gx gy px py (whole .two-across) (whole .two-down);
       all = λ whole z lz p m.
           let a = damaged-all two gx gy px py z lz p m in

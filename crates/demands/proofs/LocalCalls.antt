@@ -20,7 +20,7 @@ use Rattle.pvrtc.specs.Refusals.{need, zeroSide, largeSide, shortImage, notPowe
 use Rattle.pvrtc.specs.declared.Call.{Call}
 use Rattle.pvrtc.specs.declared.Decoded.the-variants.{Done}
 use Rattle.pvrtc.specs.declared.Picture.{Picture}
-use Rattle.pvrtc.proofs.Accepted.{accepted, passed, power-across, power-down}
+use Rattle.pvrtc.proofs.Accepted.{accepted, passed, power-across, power-down, covers-across, covers-down}
 use Rattle.pvrtc.proofs.Agree.{word-is}
 use Rattle.demands.specs.Footprint.{isIn, SameOutside}
 use Rattle.demands.specs.Local.{Told, Local}
@@ -40,7 +40,10 @@ module _ (p : Picture) (sides : zeroSide p ≡ false) (small : largeSide p ≡ f
   two = p .is2bpp
 
   here : Local two (gridOf p .across) (gridOf p .down) (p .width) (p .height)
-  here = local two (gridOf p .across) (gridOf p .down) (p .width) (p .height) (covers two (p .width) (p .height) (power-across p powers) (power-down p powers))
+  here =
+      let g = gridOf p in
+      local two (g .across) (g .down) (p .width) (p .height)
+      (covers two (g .across) (g .down) (p .width) (p .height) (power-across p powers) (power-down p powers) (covers-across p) (covers-down p))
 
   -- runs that differ in block z alone have the same texel where z is not in the footprint
   unchanged : (d d' : List ℕ) (z x y : ℕ) → SameOutside (blocksOf p) d d' z → (List·Memᴰ z (footprintOf p x y) → ⊥)
@@ -128,6 +131,7 @@ module _ (p : Picture) (sides : zeroSide p ≡ false) (small : largeSide p ≡ f
         only = λ x y z v w d d' same a b differ.
             let s = seen p d x y v a in
             here .only z d d' same x y (s .across) (s .down) (λ e. differ (s .is ∙ e ∙ sym (seen p d' x y w b .is)));
+        cut = λ x y z lx ly lz. (here .drawn x y z lz, here .listed x y z lx ly);
         no-more = no-more;
         at-most = at-most;
         exactly = λ whole z lz. omega (arith, touched-at-most here z, touched-at-least here z whole lz, rectangle-size two);

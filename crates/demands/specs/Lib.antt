@@ -4,6 +4,7 @@ pub mod Idle
 pub mod Local
 pub mod LocalCalls
 pub mod LocalFiles
+pub mod Modes
 pub mod NoEffect
 pub mod Numbers
 pub mod Orders

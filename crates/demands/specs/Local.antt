@@ -53,6 +53,8 @@ pub record Local (two : Bool) (gx gy w h : ℕ) : Type 0 where
       → (texelWord two gx gy d x y ≡ texelWord two gx gy d' x y → ⊥) → List·Memᴰ (spot x y) (damaged two gx gy z)
   -- Nor is z in the footprint of a texel outside it.
   pub listed : (x y z : ℕ) → x < w → y < h → List·Memᴰ z (footprint two gx gy x y) → List·Memᴰ (spot x y) (damaged two gx gy z)
+  -- And it is in that of each place of it.
+  pub drawn : (x y z : ℕ) → z < gx * gy → List·Memᴰ (spot x y) (damaged two gx gy z) → List·Memᴰ z (footprint two gx gy x y)
   -- In a whole picture the texels of the rectangle are all different, all of the picture, and z is in the footprint of each: so it is
   -- in the footprints of exactly 49 texels, or 105.
   pub once : Whole two gx gy w h → (z : ℕ) → Different (damaged two gx gy z)

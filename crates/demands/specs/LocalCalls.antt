@@ -3,6 +3,7 @@
 use mathlib.Core.Path.{_≡_}
 use mathlib.Core.Bool.{Bool, false, cond, not}
 use mathlib.Core.List.{List, List·Memᴰ}
+use mathlib.Core.Logic.{_↔_}
 use Prim.Native.Nat.{ℕ, _+_, _*_, _/_, _%_, _≤_, _<_}
 use lib.Dec.{eqb}
 use lib.ListN.{length, getD}
@@ -44,7 +45,7 @@ changed p new new' = count (λ k. not (eqb (getD new k 0) (getD new' k 0))) (p .
 abbrev pub mostTouched : Bool → ℕ
 mostTouched two = cond two 105 49
 
--- A picture that clips no block, and has two or more each way.
+-- A picture that its grid covers exactly, with two blocks or more each way.
 abbrev pub WholePicture : Picture → Type 0
 WholePicture p = Whole (p .is2bpp) (gridOf p .across) (gridOf p .down) (p .width) (p .height)
 
@@ -84,11 +85,14 @@ pub record LocalCalls (p : Picture) : Type 0 where
   pub size : (z : ℕ) → length (damagedBy p z) ≡ mostTouched (p .is2bpp)
   pub only : (x y z v w : ℕ) (d d' : List ℕ) → SameOutside (blocksOf p) d d' z → Gives p d x y v → Gives p d' x y w
       → (v ≡ w → ⊥) → List·Memᴰ (spot x y) (damagedBy p z)
+  -- A block that lies past the picture, as a stored grid may have it, still has its rectangle, cut to the picture: of its texels, z is in the
+  -- footprint of those of the rectangle and of no other.
+  pub cut : (x y z : ℕ) → x < p .width → y < p .height → z < blocksOf p → List·Memᴰ (spot x y) (damagedBy p z) ↔ List·Memᴰ z (footprintOf p x y)
   -- It changes no more words of the picture than there are texels with z in their footprint, and these are at most so many.
   pub no-more : (z : ℕ) (d d' old new old' new' : List ℕ) → SameOutside (blocksOf p) d d' z
       → BlockDecoded p d old new Done → BlockDecoded p d' old' new' Done → changed p new new' ≤ touchedBy p z
   pub at-most : (z : ℕ) → touchedBy p z ≤ mostTouched (p .is2bpp)
-  -- In an unclipped picture with at least two blocks each way, exactly so many.
+  -- Where the grid has at least two blocks each way and covers the picture exactly, exactly so many.
   pub exactly : WholePicture p → (z : ℕ) → z < blocksOf p → touchedBy p z ≡ mostTouched (p .is2bpp)
 
 -- So it is for every picture that some call accepts.

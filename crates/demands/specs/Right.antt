@@ -4,13 +4,16 @@ use mathlib.Core.List.{List}
 use Prim.Native.Nat.{ℕ, _+_, _*_, _<_}
 use lib.ListN.{getD}
 use Rattle.khronos.specs.Agrees.{Bytes, word32}
-use Rattle.khronos.specs.Storage.{khronosPicture}
+use Rattle.khronos.specs.Khronos.{halfBlock}
+use Rattle.khronos.specs.Storage.{blocksAlong, storedAlong, khronosPicture}
 use Rattle.files.specs.Fields.{u32At}
 use Rattle.ktx.specs.Picture as ktx
 use Rattle.ktx.specs.Picture.{KtxDecoded}
 use Rattle.ktx.specs.declared.Decoded.the-variants.{Done as KtxDone}
 use Rattle.pvrtc.specs.Calls.{TexelRead, RowDecoded, BlockDecoded}
 use Rattle.pvrtc.specs.declared.Decoded.the-variants.{Done}
+use Rattle.pvrtc.specs.declared.GridMode.{GridMode}
+use Rattle.pvrtc.specs.declared.GridMode.the-variants.{Rust, Stored}
 use Rattle.pvrtc.specs.declared.Picture.{Picture}
 use Rattle.pvrtc.specs.declared.Texel.the-variants.{Word}
 use Rattle.capi.specs.Ktx.{WroteKtx}
@@ -42,9 +45,17 @@ pub data Gives (p : Picture) (d : List ℕ) (x y v : ℕ) : Type 0 where
   by-program : (file : List ℕ) → plateOf file ≡ p → levelData file ≡ d → programRefusal file ≡ 0 → x < p .width → y < p .height
       → v ≡ u32At (output file) (18 + 4 * placeIn p x y) → Gives p d x y v
 
--- The word that Khronos describes at texel (x, y) of a picture.
+-- The blocks that are stored for a side of so many texels: those that Khronos counts, or as many as the published extension has.
+abbrev pub khronosSide : GridMode → (size side : ℕ) → ℕ
+khronosSide Rust size side = blocksAlong size side
+khronosSide Stored size side = storedAlong size side
+
+-- The word that Khronos describes at texel (x, y) of a picture, over the grid of its mode.
 abbrev pub khronosWord : Picture → List ℕ → ℕ → ℕ → ℕ
-khronosWord p d x y = word32 (khronosPicture (p .is2bpp) (p .width) (p .height) d x y)
+khronosWord p d x y =
+    let gx = khronosSide (p .mode) (2 * halfBlock (p .is2bpp)) (p .width) in
+    let gy = khronosSide (p .mode) 4 (p .height) in
+    word32 (khronosPicture (p .is2bpp) gx gy d x y)
 
 -- Whatever call gives it, a texel is Khronos's; so all calls agree.
 abbrev pub Right : Type 0

@@ -9,3 +9,7 @@ block a l = 0 ∷ 0 ∷ 0 ∷ 0 ∷ a % 256 ∷ a / 256 ∷ 0 ∷ 0x80 ∷ l
 -- Two blocks, the first red and the second black.
 abbrev pub redBlack : List ℕ
 redBlack = block 0xFC00 (block 0x8000 [])
+
+-- Four blocks, the first red and the others black.
+abbrev pub redCorner : List ℕ
+redCorner = block 0xFC00 (block 0x8000 (block 0x8000 (block 0x8000 [])))

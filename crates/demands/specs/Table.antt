@@ -4,7 +4,7 @@ use mathlib.Core.List.{List}
 use Prim.Native.Nat.{ℕ, _<_, min}
 use Rattle.grid.specs.Grid.{blockAddress, tableAddress, Placed, Interleaved}
 use Rattle.pvrtc.specs.Calls.{refusal}
-use Rattle.pvrtc.specs.Picture.{across, down}
+use Rattle.pvrtc.specs.Picture.{gridOf}
 use Rattle.pvrtc.specs.declared.Call.{Call}
 use Rattle.pvrtc.specs.declared.Picture.{Picture}
 
@@ -17,4 +17,5 @@ pub record SameAddress (gx gy x y : ℕ) : Type 0 where
 -- The table agrees with the bit-by-bit address at every place of every accepted grid.
 abbrev pub TableAgrees : Type 0
 TableAgrees =
-    (p : Picture) (c : Call) (d : List ℕ) → refusal p c d ≡ 0 → (x y : ℕ) → x < across p → y < down p → SameAddress (across p) (down p) x y
+    (p : Picture) (c : Call) (d : List ℕ) → refusal p c d ≡ 0 → (x y : ℕ)
+    → let g = gridOf p in x < g .across → y < g .down → SameAddress (g .across) (g .down) x y

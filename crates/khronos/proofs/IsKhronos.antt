@@ -1,5 +1,5 @@
 -- Every texel of document 01 is the one that Khronos describes. Assumes nothing.
-use mathlib.Core.Path.{_≡_, sym, ap, ap₂, _∙_}
+use mathlib.Core.Path.{_≡_, sym, ap, _∙_}
 use mathlib.Core.Bool.{Bool}
 use mathlib.Core.List.{List}
 use Prim.Native.Nat.{ℕ, _+_, _*_, _/_, _%_, _<_}
@@ -7,7 +7,6 @@ use native.Mathlib.Omega.{arith}
 use lib.ListN.{drop}
 use lib.Seq.{getD-drop}
 use Rattle.grid.specs.Grid.{half, blockWidth, blocks, beside}
-use Rattle.grid.proofs.Counts.{wide, block-below}
 use Rattle.grid.proofs.Powers.{power-above}
 use Rattle.grid.proofs.Torus.{beside-own, beside-below}
 use Rattle.word.specs.Word.{wordOf}
@@ -16,9 +15,9 @@ use Rattle.word.specs.declared.PVRTCTexelInfo.{PVRTCTexelInfo}
 use Rattle.texel.specs.Texel.{Words, nineSum, blended, filled, ruleAt, punched, about, mixed, packed, texelIn, texelAt, wordsOf}
 use Rattle.texel.proofs.Same.{look-same}
 use Rattle.texel.proofs.Shares.{half-low}
-use Rattle.khronos.specs.Agrees.{Bytes, Same, Agrees, word32, PictureAgrees}
-use Rattle.khronos.specs.Khronos.{Color, word64, imageA, imageB, bilinear, modulation, punchThrough, modulated, halfBlock, khronosTexel}
-use Rattle.khronos.specs.Storage.{blocksAlong, wordIndex, wordBytesAt}
+use Rattle.khronos.specs.Agrees.{Bytes, Same, Agrees, PictureAgrees}
+use Rattle.khronos.specs.Khronos.{Color, word64, imageA, imageB, bilinear, modulation, punchThrough, modulated, khronosTexel}
+use Rattle.khronos.specs.Storage.{wordIndex, wordBytesAt}
 use Rattle.khronos.proofs.Images.{image-a, image-b}
 use Rattle.khronos.proofs.Interpolation.{around}
 use Rattle.khronos.proofs.Modulation.{positive, same-weight}
@@ -84,28 +83,13 @@ pub agrees : (two : Bool) (gx gy : ℕ) (bytes : ℕ → ℕ → List ℕ) → (
 agrees = same
 
 -- so each word of a picture, whose words Khronos finds where document 01 does
-pub is-khronos : (two : Bool) (width height : ℕ) (d : List ℕ) → Bytes d → PictureAgrees two width height d
-is-khronos two width height d l px py fx fy x y hx hy =
+pub is-khronos : (two : Bool) (gx gy : ℕ) (d : List ℕ) → Bytes d → PictureAgrees two gx gy d
+is-khronos two gx gy d l px py fx fy x y hx hy =
     ap packed (look-same (half two) gx gy x y (half-low two) (wordsOf two gx gy d) (λ i j. wordOf two (bytes i j)) (λ i j _ _. found i j))
-    ∙ rw (t .red, t .green, t .blue, t .alpha) (ap₂ (λ (g h : ℕ). word32 (khronosTexel two g h (words g h) x y)) (sym across) (sym down))
+    ∙ rw (t .red, t .green, t .blue, t .alpha)
   where
-    gx : ℕ
-    gx = blocks (blockWidth two) width
-
-    gy : ℕ
-    gy = blocks 4 height
-
-    across : blocksAlong (2 * halfBlock two) width ≡ gx
-    across = same-storage .count (2 * halfBlock two) width (omega (arith, positive two))
-
-    down : blocksAlong 4 height ≡ gy
-    down = same-storage .count 4 height (omega arith)
-
     bytes : ℕ → ℕ → List ℕ
     bytes i j = wordBytesAt gx gy d i j
-
-    words : ℕ → ℕ → ℕ → ℕ → ℕ
-    words g h i j = word64 (wordBytesAt g h d i j)
 
     -- the words about the texel
     found : (i j : ℕ) → let bx = beside gx (x / blockWidth two) i in let by = beside gy (y / 4) j in wordsOf two gx gy d bx by ≡ wordOf two (bytes bx by)
@@ -117,6 +101,4 @@ is-khronos two width height d l px py fx fy x y hx hy =
         ap (λ (z : ℕ). wordOf two (drop (8 * z) d)) (sym (same-storage .order gx gy bx by px py fx fy across down))
 
     t : Same (texelAt (half two) gx gy (λ i j. wordOf two (bytes i j)) x y) (khronosTexel two gx gy (λ i j. word64 (bytes i j)) x y)
-    t =
-        agrees two gx gy bytes (λ i j k. rw (getD-drop (8 * wordIndex gx gy i j) d k 0) (l (8 * wordIndex gx gy i j + k))) x y
-        (block-below (blockWidth two) width (wide two) x hx) (block-below 4 height (omega arith) y hy)
+    t = agrees two gx gy bytes (λ i j k. rw (getD-drop (8 * wordIndex gx gy i j) d k 0) (l (8 * wordIndex gx gy i j + k))) x y hx hy

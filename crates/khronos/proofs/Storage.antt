@@ -2,20 +2,20 @@
 use mathlib.Core.Path.{_≡_, refl, ap, ap₂, _∙_}
 use mathlib.Core.Bool.{Bool, true, false, cond}
 use mathlib.Core.Logic.{⊎-elim}
-use Prim.Native.Nat.{ℕ, zero, suc, _+_, _*_, _/_, _%_, _^_, _≤_, _<_, min}
-use native.Mathlib.Nat.{pow-succ', div-one, zero-div}
+use Prim.Native.Nat.{ℕ, zero, suc, _+_, _-_, _*_, _/_, _%_, _^_, _≤_, _<_, min, max}
+use native.Mathlib.Nat.{pow-succ', div-one, zero-div, mul-le-mul-right}
 use native.Mathlib.Omega.{arith}
 use lib.Dec.{eqb, eqb→eq}
 use lib.Pow.{pow-mono}
 use borrow.Author.Tests.{eqb-true, eqb-false}
 use Rattle.facts.proofs.Finite.{below}
-use Rattle.facts.proofs.Numbers.{lt-or-le}
+use Rattle.facts.proofs.Numbers.{lt-or-le, split}
 use Rattle.facts.proofs.Powers.{pow-le-cancel, shift}
 use Rattle.grid.specs.Grid.{blocks, log2, Power, address, blockAddress}
-use Rattle.grid.proofs.Counts.{exact, clipped}
+use Rattle.grid.proofs.Counts.{exact, clipped, blocks-cover, blocks-tight}
 use Rattle.khronos.specs.Agrees.{SameStorage}
 use Rattle.khronos.specs.Khronos.{field}
-use Rattle.khronos.specs.Storage.{blocksAlong, total, sideBits, rowPlace, columnPlace, wordIndex}
+use Rattle.khronos.specs.Storage.{blocksAlong, storedAlong, total, sideBits, rowPlace, columnPlace, wordIndex}
 
 same-count : (size side : ℕ) → 0 < size → blocksAlong size side ≡ blocks size side
 same-count size side pos = by (eqb (side % size) 0) refl
@@ -23,6 +23,31 @@ same-count size side pos = by (eqb (side % size) 0) refl
     by : (t : Bool) → eqb (side % size) 0 ≡ t → side / size + cond t 0 1 ≡ blocks size side
     by true e = omega (arith, exact size side pos (eqb-true (side % size) 0 e))
     by false e = omega (arith, clipped size side pos (eqb-false (side % size) 0 e))
+
+-- a side shorter than two blocks is stored as one of two blocks; any other as it is, with two or more
+same-stored : (size side : ℕ) → 0 < size → storedAlong size side ≡ max 2 (blocks size side)
+same-stored size side pos = same-count size (max side (2 * size)) pos ∙ ⊎-elim short long (lt-or-le side (2 * size))
+  where
+    short : side < 2 * size → blocks size (max side (2 * size)) ≡ max 2 (blocks size side)
+    short l =
+        let longer : max side (2 * size) ≡ 2 * size = omega arith in
+        let both : blocks size (2 * size) ≡ 2 = split size (2 * size + (size - 1)) 2 (size - 1) refl (omega arith) .0 in
+        let few : blocks size side ≤ 2 =
+        ⊎-elim
+        (λ more. absurd (omega (arith, mul-le-mul-right {m = 3} {n = blocks size side} size more, blocks-tight size side pos)))
+        (λ few. few)
+        (lt-or-le 2 (blocks size side)) in
+        ap (blocks size) longer ∙ omega (arith, both, few)
+
+    long : 2 * size ≤ side → blocks size (max side (2 * size)) ≡ max 2 (blocks size side)
+    long l =
+        let longer : max side (2 * size) ≡ side = omega arith in
+        let many : 2 ≤ blocks size side =
+        ⊎-elim
+        (λ few. absurd (omega (arith, mul-le-mul-right {m = blocks size side} {n = 1} size (omega arith), blocks-cover size side pos)))
+        (λ many. many)
+        (lt-or-le (blocks size side) 2) in
+        ap (blocks size) longer ∙ omega (arith, many)
 
 -- sums of equal terms are equal, and a common factor goes before the sum
 total-same : (f g : ℕ → ℕ) (n : ℕ) → ((i : ℕ) → f i ≡ g i) → total f n ≡ total g n
@@ -140,4 +165,4 @@ same-order gx gy x y px py lx ly hx hy =
         (lt-or-le gx gy)
 
 pub same-storage : SameStorage
-same-storage = record { count = same-count; order = same-order }
+same-storage = record { count = same-count; stored = same-stored; order = same-order }

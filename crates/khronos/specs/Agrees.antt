@@ -2,13 +2,13 @@
 use mathlib.Core.Path.{_≡_}
 use mathlib.Core.Bool.{Bool}
 use mathlib.Core.List.{List}
-use Prim.Native.Nat.{ℕ, _+_, _*_, _/_, _≤_, _<_}
+use Prim.Native.Nat.{ℕ, _+_, _*_, _/_, _≤_, _<_, max}
 use lib.ListN.{getD}
 use Rattle.grid.specs.Grid.{half, blockWidth, blocks, Power, blockAddress}
 use Rattle.word.specs.Word.{wordOf}
 use Rattle.texel.specs.Texel.{Pixel, texelAt, texelWord}
 use Rattle.khronos.specs.Khronos.{Color, word64, khronosTexel}
-use Rattle.khronos.specs.Storage.{blocksAlong, wordIndex, khronosPicture}
+use Rattle.khronos.specs.Storage.{blocksAlong, storedAlong, wordIndex, khronosPicture}
 
 -- Document 01's texel has the channels of Khronos's.
 pub record Same (p : Pixel) (c : Color) : Type 0 where
@@ -27,9 +27,11 @@ Agrees two gx gy bytes =
     (x y : ℕ) → x / blockWidth two < gx → y / 4 < gy
     → Same (texelAt (half two) gx gy (λ i j. wordOf two (bytes i j)) x y) (khronosTexel two gx gy (λ i j. word64 (bytes i j)) x y)
 
--- The blocks that Khronos counts along a side of so many texels, and where it stores a word of a grid, are document 01's.
+-- The blocks that Khronos counts along a side of so many texels, and where it stores a word of a grid, are document 01's; those that the
+-- extension stores are document 02's.
 pub record SameStorage : Type 0 where
   pub count : (size side : ℕ) → 0 < size → blocksAlong size side ≡ blocks size side
+  pub stored : (size side : ℕ) → 0 < size → storedAlong size side ≡ max 2 (blocks size side)
   pub order : (gx gy x y : ℕ) → Power gx → Power gy → gx ≤ 65536 → gy ≤ 65536 → x < gx → y < gy → wordIndex gx gy x y ≡ blockAddress gx gy x y
 
 -- The word of a colour of 8 bits a channel: blue lowest, alpha on top.
@@ -37,9 +39,7 @@ abbrev pub word32 : Color → ℕ
 word32 c = c .blue + 256 * c .green + 65536 * c .red + 16777216 * c .alpha
 
 -- Each word of a picture whose grid has powers of two as its sides, up to 65,536, is that of the colour that Khronos describes.
-abbrev pub PictureAgrees : Bool → (width height : ℕ) → List ℕ → Type 0
-PictureAgrees two width height d =
-    let gx = blocks (blockWidth two) width in
-    let gy = blocks 4 height in
-    Power gx → Power gy → gx ≤ 65536 → gy ≤ 65536 → (x y : ℕ) → x < width → y < height
-    → texelWord two gx gy d x y ≡ word32 (khronosPicture two width height d x y)
+abbrev pub PictureAgrees : Bool → (gx gy : ℕ) → List ℕ → Type 0
+PictureAgrees two gx gy d =
+    Power gx → Power gy → gx ≤ 65536 → gy ≤ 65536 → (x y : ℕ) → x / blockWidth two < gx → y / 4 < gy
+    → texelWord two gx gy d x y ≡ word32 (khronosPicture two gx gy d x y)

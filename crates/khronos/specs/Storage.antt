@@ -2,14 +2,18 @@
 -- Nothing here is shared with document 01's definitions, so that both can be compared. Assumes nothing: these are definitions.
 use mathlib.Core.Bool.{Bool, cond}
 use mathlib.Core.List.{List}
-use Prim.Native.Nat.{ℕ, zero, suc, _+_, _*_, _/_, _%_, _^_, min}
+use Prim.Native.Nat.{ℕ, zero, suc, _+_, _*_, _/_, _%_, _^_, min, max}
 use lib.Dec.{eqb, ltb}
 use lib.ListN.{drop}
-use Rattle.khronos.specs.Khronos.{Color, word64, field, halfBlock, khronosTexel}
+use Rattle.khronos.specs.Khronos.{Color, word64, field, khronosTexel}
 
 -- The blocks of a side: those that are full, and one more where texels are left over.
 abbrev pub blocksAlong : ℕ → ℕ → ℕ
 blocksAlong size side = side / size + cond (eqb (side % size) 0) 0 1
+
+-- The blocks of a side as the published extension IMG_texture_compression_pvrtc has it stored: as if it had the texels of two blocks at least.
+abbrev pub storedAlong : ℕ → ℕ → ℕ
+storedAlong size side = blocksAlong size (max side (2 * size))
 
 -- f 0 + f 1 + .. + f (n - 1).
 unfoldable pub total : (ℕ → ℕ) → ℕ → ℕ
@@ -38,9 +42,6 @@ wordIndex gx gy column row =
 abbrev pub wordBytesAt : ℕ → ℕ → List ℕ → ℕ → ℕ → List ℕ
 wordBytesAt gx gy d column row = drop (8 * wordIndex gx gy column row) d
 
--- The texel (x, y) of a picture of so many texels across and down, stored as the bytes d.
-abbrev pub khronosPicture : Bool → (width height : ℕ) → List ℕ → ℕ → ℕ → Color
-khronosPicture two width height d x y =
-    let gx = blocksAlong (2 * halfBlock two) width in
-    let gy = blocksAlong 4 height in
-    khronosTexel two gx gy (λ column row. word64 (wordBytesAt gx gy d column row)) x y
+-- The texel (x, y) of a picture of which gx by gy blocks are stored, as the bytes d.
+abbrev pub khronosPicture : Bool → (gx gy : ℕ) → List ℕ → ℕ → ℕ → Color
+khronosPicture two gx gy d x y = khronosTexel two gx gy (λ column row. word64 (wordBytesAt gx gy d column row)) x y
