@@ -45,6 +45,9 @@ static const char *read_file(const char *path, uint8_t **bytes, size_t *len)
     return wrong;
 }
 
+/* The mode for data that comes from a file: any number but 0 is the stored mode. */
+enum { STORED = 1 };
+
 /* A file with what its header says: its sides and depth, and the data that is there. */
 struct plate {
     const uint8_t *file, *data;
@@ -63,7 +66,7 @@ static uint64_t field(const struct plate *p, uint32_t number)
 /* The texel, by the same call for both kinds. */
 static uint64_t texel(const struct plate *p, uint64_t x, uint64_t y)
 {
-    return plate_texel(p->data, p->left, p->width, p->height, p->depth, x, y);
+    return plate_texel(p->data, p->left, p->width, p->height, p->depth, STORED, x, y);
 }
 
 /* The picture, by the call for the file's kind. */
@@ -71,7 +74,7 @@ static uint64_t decode(const struct plate *p, uint32_t *image, size_t room)
 {
     if (p->is_ktx)
         return plate_ktx_picture(p->file, p->len, image, room);
-    return plate_picture(p->data, p->left, p->width, p->height, p->depth, image, room);
+    return plate_picture(p->data, p->left, p->width, p->height, p->depth, STORED, image, room);
 }
 
 /* Three texels, and one past the corner, which is refused. */

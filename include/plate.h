@@ -19,6 +19,15 @@
  *  22  a side is above 1,024
  *
  * A texel is blue + 256 green + 65,536 red + 16,777,216 alpha.
+ *
+ * Data is blocks of 8 bytes, each for 4 x 4 texels at 4 bits a texel, for 8 x 4 at 2 bits. The mode, a number, says how many there are. In
+ * mode 0, the Rust original's, there are as many as cover the picture: a side divided by a block's side, rounded up. In the stored mode, any
+ * other number, likewise, but two across and two down at the least, as the published format stores them. So 4 x 4 texels at 4 bits need
+ * 8 bytes in mode 0 and 32 in the stored mode. Refusal 3 is for fewer bytes than the mode's blocks have, and 5 counts the mode's blocks.
+ *
+ * Plates from files want the stored mode. Where one block covers a picture across or down, the file has more blocks than cover it: they share
+ * in its colours, and mode 0 would leave them out or take them for others. Every other picture is the same in both modes. The calls that take
+ * a file take no mode: they read it as stored.
  */
 #ifndef PLATE_H
 #define PLATE_H
@@ -31,16 +40,18 @@ extern "C" {
 #endif
 
 /* Texel (x, y) of a picture: the texel in the low 32 bits, the refusal's number above them. Refused, the texel is 0.
- * Depth 0 is 4 bits a texel, any other number 2 bits. */
-uint64_t plate_texel(const uint8_t *data, size_t len, uint64_t width, uint64_t height, uint32_t depth, uint64_t x, uint64_t y);
+ * Depth 0 is 4 bits a texel, any other number 2 bits; mode 0 is the Rust's, any other number the stored one. */
+uint64_t plate_texel(const uint8_t *data, size_t len, uint64_t width, uint64_t height, uint32_t depth, uint32_t mode, uint64_t x, uint64_t y);
 
 /* Row y of a picture into `room` lent words: texel (x, y) at word x, later words stay. Answers the refusal's number; refused, every word
  * stays. */
-uint64_t plate_row(const uint8_t *data, size_t len, uint64_t width, uint64_t height, uint32_t depth, uint64_t y, uint32_t *row, size_t room);
+uint64_t plate_row(const uint8_t *data, size_t len, uint64_t width, uint64_t height, uint32_t depth, uint32_t mode, uint64_t y,
+                   uint32_t *row, size_t room);
 
 /* A whole picture into `room` lent words: texel (x, y) at word y * width + x, later words stay. Answers the refusal's number; refused,
  * every word stays. */
-uint64_t plate_picture(const uint8_t *data, size_t len, uint64_t width, uint64_t height, uint32_t depth, uint32_t *image, size_t room);
+uint64_t plate_picture(const uint8_t *data, size_t len, uint64_t width, uint64_t height, uint32_t depth, uint32_t mode,
+                       uint32_t *image, size_t room);
 
 /* A field of a PVR version 3 file's header. 0: the refusal's number; 1: width; 2: height; 3: bits a texel, 2 or 4; 4: where the picture's
  * data starts. Fields 1 to 4 of a refused header, and any other field, are 0. */
@@ -51,8 +62,8 @@ uint64_t plate_header(const uint8_t *file, size_t len, uint32_t field);
  * any other field, are 0. */
 uint64_t plate_ktx(const uint8_t *file, size_t len, uint32_t field);
 
-/* The picture of a KTX version 1 file into `room` lent words, laid as plate_picture lays it. Answers the refusal's number, the first of the
- * header's and then 1, 2, 36, 3, 4 and 5 that holds; refused, every word stays. */
+/* The picture of a KTX version 1 file into `room` lent words, as plate_picture gives it in the stored mode. Answers the refusal's number, the
+ * first of the header's and then 1, 2, 36, 3, 4 and 5 that holds; refused, every word stays. */
 uint64_t plate_ktx_picture(const uint8_t *file, size_t len, uint32_t *image, size_t room);
 
 #ifdef __cplusplus

@@ -1,14 +1,17 @@
 // Times the calls of include/plate.h against the Rust original: one process, the same input, CPU time, the best of 35.
 //
 // A time is that of a call divided by its texels, in nanoseconds; a ratio is the original's time divided by ours, so above 1 ours is
-// faster. Every picture that is timed is first decoded by both and compared. Built with `--cfg before`, it times another build of our
-// library as well, in turn with the two: then the last column is our time divided by that build's, so above 1 ours is slower.
+// faster. Ours is timed in the Rust's mode and in the stored one. Every picture that is timed is first decoded by both and compared. Built with
+// `--cfg before`, it times another build of our library as well, in the Rust's mode and in turn with the others: then the last two columns are
+// our times in the two modes divided by that build's, so above 1 ours is slower.
 
 extern crate color;
 
 mod both;
+mod shape;
 
-use both::{draw, original, plate_picture, plate_row, plate_texel};
+use both::{draw, plate_picture, plate_row, plate_texel};
+use shape::{Shape, RUSTS, STORED};
 use std::hint::black_box;
 
 extern "C" {
@@ -57,25 +60,58 @@ fn best_times(mut works: Vec<Work>) -> Vec<f64> {
     best
 }
 
-// The calls of one build of our library.
-struct Library {
-    picture: unsafe extern "C" fn(*const u8, usize, u64, u64, u32, *mut u32, usize) -> u64,
-    row: unsafe extern "C" fn(*const u8, usize, u64, u64, u32, u64, *mut u32, usize) -> u64,
-    texel: unsafe extern "C" fn(*const u8, usize, u64, u64, u32, u64, u64) -> u64,
+// The calls of one build of our library in a mode, which answer as include/plate.h says.
+struct Calls {
+    mode: u32,
+    picture: fn(&Picture, &mut [u32]) -> u64,
+    row: fn(&Picture, usize, &mut [u32]) -> u64,
+    texel: fn(&Picture, usize, usize) -> u64,
 }
 
+// A build's calls, by the names of its functions and by what they take behind the depth: the mode or, before there were modes, nothing. So no
+// build is called through one function more than another.
+macro_rules! calls {
+    ($mode:expr, $picture:ident, $row:ident, $texel:ident, ($($behind:expr),*)) => {
+        Calls {
+            mode: $mode,
+            picture: |p, image| {
+                let (w, h, depth) = p.s.numbers();
+                unsafe { $picture(p.data.as_ptr(), p.data.len(), w, h, depth, $($behind,)* image.as_mut_ptr(), image.len()) }
+            },
+            row: |p, y, row| {
+                let (w, h, depth) = p.s.numbers();
+                unsafe { $row(p.data.as_ptr(), p.data.len(), w, h, depth, $($behind,)* y as u64, row.as_mut_ptr(), row.len()) }
+            },
+            texel: |p, x, y| {
+                let (w, h, depth) = p.s.numbers();
+                unsafe { $texel(p.data.as_ptr(), p.data.len(), w, h, depth, $($behind,)* x as u64, y as u64) }
+            },
+        }
+    };
+}
+
+// The other build's functions. Without a mode, they have the parameters of a library from before there were modes.
 #[cfg(before)]
 extern "C" {
-    fn before_plate_texel(data: *const u8, len: usize, width: u64, height: u64, depth: u32, x: u64, y: u64) -> u64;
-    fn before_plate_row(data: *const u8, len: usize, width: u64, height: u64, depth: u32, y: u64, row: *mut u32, room: usize) -> u64;
-    fn before_plate_picture(data: *const u8, len: usize, width: u64, height: u64, depth: u32, image: *mut u32, room: usize) -> u64;
+    fn before_plate_texel(
+        data: *const u8, len: usize, width: u64, height: u64, depth: u32, #[cfg(not(without_mode))] mode: u32, x: u64, y: u64,
+    ) -> u64;
+    fn before_plate_row(
+        data: *const u8, len: usize, width: u64, height: u64, depth: u32, #[cfg(not(without_mode))] mode: u32, y: u64, row: *mut u32, room: usize,
+    ) -> u64;
+    fn before_plate_picture(
+        data: *const u8, len: usize, width: u64, height: u64, depth: u32, #[cfg(not(without_mode))] mode: u32, image: *mut u32, room: usize,
+    ) -> u64;
 }
 
-// Ours, and the other build if there is one.
-static LIBRARIES: &[Library] = &[
-    Library { picture: plate_picture, row: plate_row, texel: plate_texel },
-    #[cfg(before)]
-    Library { picture: before_plate_picture, row: before_plate_row, texel: before_plate_texel },
+// Ours in both modes, and the other build if there is one.
+static BUILDS: &[Calls] = &[
+    calls!(RUSTS, plate_picture, plate_row, plate_texel, (RUSTS)),
+    calls!(STORED, plate_picture, plate_row, plate_texel, (STORED)),
+    #[cfg(all(before, not(without_mode)))]
+    calls!(RUSTS, before_plate_picture, before_plate_row, before_plate_texel, (RUSTS)),
+    #[cfg(all(before, without_mode))]
+    calls!(RUSTS, before_plate_picture, before_plate_row, before_plate_texel, ()),
 ];
 
 // Words as drawn.
@@ -95,115 +131,124 @@ fn page_words(blocks: usize) -> Vec<u8> {
     (0..blocks).flat_map(|_| word(draw(&mut state)).to_le_bytes()).collect()
 }
 
+// Places of texels, drawn: each is a word of the picture.
+fn places(s: Shape) -> Vec<usize> {
+    let mut state = 1;
+    (0..262_144).map(|_| draw(&mut state) as usize % s.texels()).collect()
+}
+
 struct Picture<'a> {
     data: &'a [u8],
-    width: usize,
-    height: usize,
-    is2bpp: bool,
+    s: Shape,
+    words: &'static str,
 }
 
 impl Picture<'_> {
-    fn original(&self, image: &mut [u32]) {
-        original::decode_pvrtc(self.data, self.width, self.height, image, self.is2bpp).expect("the original refuses");
+    fn original(&self, image: &mut [u32], mode: u32) {
+        self.s.original(self.data, image, mode).expect("the original refuses");
     }
 
-    fn whole(&self, library: &Library, image: &mut [u32]) {
-        let (w, h) = (self.width as u64, self.height as u64);
-        let refused = unsafe { (library.picture)(self.data.as_ptr(), self.data.len(), w, h, self.is2bpp as u32, image.as_mut_ptr(), image.len()) };
-        assert_eq!(refused, 0);
-    }
-
-    fn row(&self, library: &Library, y: usize, row: &mut [u32]) {
-        let (w, h) = (self.width as u64, self.height as u64);
-        let refused = unsafe { (library.row)(self.data.as_ptr(), self.data.len(), w, h, self.is2bpp as u32, y as u64, row.as_mut_ptr(), row.len()) };
-        assert_eq!(refused, 0);
-    }
-
-    fn texel(&self, library: &Library, x: usize, y: usize) -> u64 {
-        let (w, h) = (self.width as u64, self.height as u64);
-        unsafe { (library.texel)(self.data.as_ptr(), self.data.len(), w, h, self.is2bpp as u32, x as u64, y as u64) }
-    }
-
-    // The best times of the original's picture and of a work of each library.
-    fn timed<'a>(&'a self, work: impl Fn(&'static Library) -> Work<'a>) -> Vec<f64> {
-        let mut image = vec![0; self.width * self.height];
-        let mut works: Vec<Work> = vec![Box::new(move || self.original(black_box(&mut image)))];
-        works.extend(LIBRARIES.iter().map(work));
+    // The best times of the original's picture and of a work of each build.
+    fn timed<'a>(&'a self, work: impl Fn(&'static Calls) -> Work<'a>) -> Vec<f64> {
+        let mut image = vec![0; self.s.texels()];
+        let mut works: Vec<Work> = vec![Box::new(move || self.original(black_box(&mut image), RUSTS))];
+        works.extend(BUILDS.iter().map(work));
         best_times(works)
     }
+
+    // The line of a call of which each makes so many texels: the original's time, each build's with its ratio, then ours divided by the other
+    // build's.
+    fn print_line(&self, call: &str, times: &[f64], texels: usize) {
+        let theirs = times[0] / self.s.texels() as f64;
+        print!("| {call} | {} | {} × {} | {} | {theirs:.2} |", self.s.bits(), self.s.width, self.s.height, self.words);
+        for time in &times[1..] {
+            let ours = time / texels as f64;
+            print!(" {ours:.2} | {:.2} |", theirs / ours);
+        }
+        if let [_, rusts, stored, before] = times {
+            print!(" {:.3} | {:.3} |", rusts / before, stored / before);
+        }
+        println!();
+    }
+
+    fn measure_picture(&self) {
+        for build in BUILDS {
+            let (mut image, mut whole) = (vec![0; self.s.texels()], vec![0; self.s.texels()]);
+            self.original(&mut image, build.mode);
+            assert_eq!((build.picture)(self, &mut whole), 0);
+            assert!(whole == image, "the pictures differ: {} x {}, {} bits", self.s.width, self.s.height, self.s.bits());
+        }
+        let times = self.timed(|build| {
+            let mut whole = vec![0; self.s.texels()];
+            Box::new(move || assert_eq!((build.picture)(self, black_box(&mut whole)), 0))
+        });
+        self.print_line("picture", &times, self.s.texels());
+    }
+
+    fn measure_rows(&self) {
+        let (width, height) = (self.s.width, self.s.height);
+        for build in BUILDS {
+            let (mut image, mut row) = (vec![0; self.s.texels()], vec![0; width]);
+            self.original(&mut image, build.mode);
+            for y in 0..height {
+                assert_eq!((build.row)(self, y, &mut row), 0);
+                assert!(row == image[y * width..][..width], "row {y} differs");
+            }
+        }
+        let times = self.timed(|build| {
+            let (mut y, mut row) = (0, vec![0; width]);
+            Box::new(move || {
+                y = (y + 1) % height;
+                assert_eq!((build.row)(self, y, black_box(&mut row)), 0)
+            })
+        });
+        self.print_line("row", &times, width);
+    }
+
+    fn measure_texels(&self, places: &[usize]) {
+        let width = self.s.width;
+        for build in BUILDS {
+            let mut image = vec![0; self.s.texels()];
+            self.original(&mut image, build.mode);
+            for &at in places {
+                assert_eq!((build.texel)(self, at % width, at / width), image[at] as u64, "texel {at} differs");
+            }
+        }
+        let times = self.timed(|build| {
+            let mut turn = 0;
+            Box::new(move || {
+                turn = (turn + 1) % places.len();
+                black_box((build.texel)(self, places[turn] % width, places[turn] / width));
+            })
+        });
+        self.print_line("texel", &times, 1);
+    }
+}
+
+fn print_head() {
+    let mut columns = vec!["call", "bits", "size", "words", "original, ns a texel"];
+    columns.extend(["ours, ns a texel", "ratio", "ours, stored mode", "ratio"]);
+    if cfg!(before) {
+        columns.extend(["before", "ratio", "ours / before", "stored / before"]);
+    }
+    println!();
+    println!("| {} |", columns.join(" | "));
+    println!("|{}", "---|".repeat(columns.len()));
 }
 
 fn main() {
-    println!();
-    let before = LIBRARIES.len() > 1;
-    println!("| call | bits | size | words | original, ns a texel | ours, ns a texel | ratio |{}", if before { " before | ratio | ours / before |" } else { "" });
-    println!("|---|---|---|---|---|---|---|{}", if before { "---|---|---|" } else { "" });
+    print_head();
     for is2bpp in [false, true] {
         for (width, height) in [(1024, 1024), (256, 256), (1021, 1023), (8, 8)] {
-            for (kind, words) in [("random", random_words as fn(usize) -> Vec<u8>), ("page", page_words)] {
-                measure(is2bpp, width, height, kind, words);
+            for (words, drawn) in [("random", random_words as fn(usize) -> Vec<u8>), ("page", page_words)] {
+                let s = Shape { width, height, is2bpp };
+                let picture = Picture { data: &drawn(s.need(STORED) / 8), s, words };
+                picture.measure_picture();
+                if width == 1024 {
+                    picture.measure_rows();
+                    picture.measure_texels(&places(s));
+                }
             }
         }
     }
-}
-
-fn measure(is2bpp: bool, width: usize, height: usize, kind: &str, words: fn(usize) -> Vec<u8>) {
-    let bits = if is2bpp { 2 } else { 4 };
-    let block_width = 16 / bits;
-    let data = words(width.div_ceil(block_width) * height.div_ceil(4));
-    let picture = Picture { data: &data, width, height, is2bpp };
-    let texels = (width * height) as f64;
-    let mut image = vec![0; width * height];
-    picture.original(&mut image);
-    let line = |call: &str, times: &[f64], of_ours: f64| {
-        print!("| {call} | {bits} | {width} × {height} | {kind} | {:.2} |", times[0] / texels);
-        for &time in &times[1..] {
-            print!(" {:.2} | {:.2} |", time / of_ours, times[0] / texels / (time / of_ours));
-        }
-        println!("{}", times.get(2).map_or(String::new(), |before| format!(" {:.3} |", times[1] / before)));
-    };
-
-    for library in LIBRARIES {
-        let mut whole = vec![0; width * height];
-        picture.whole(library, &mut whole);
-        assert!(whole == image, "the pictures differ: {width} x {height}, {bits} bits, {kind} words");
-    }
-    let times = picture.timed(|library| {
-        let (mut whole, picture) = (vec![0; width * height], &picture);
-        Box::new(move || picture.whole(library, black_box(&mut whole)))
-    });
-    line("picture", &times, texels);
-    if width != 1024 {
-        return;
-    }
-    for library in LIBRARIES {
-        let mut row = vec![0; width];
-        for y in 0..height {
-            picture.row(library, y, &mut row);
-            assert!(row == image[y * width..][..width], "row {y} differs");
-        }
-    }
-    let times = picture.timed(|library| {
-        let (mut y, mut row, picture) = (0, vec![0; width], &picture);
-        Box::new(move || {
-            y = (y + 1) % height;
-            picture.row(library, y, black_box(&mut row))
-        })
-    });
-    line("row", &times, width as f64);
-    let mut state = 1;
-    let places: Vec<usize> = (0..262_144).map(|_| draw(&mut state) as usize % (width * height)).collect();
-    for library in LIBRARIES {
-        for &at in &places {
-            assert_eq!(picture.texel(library, at % width, at / width), image[at] as u64, "texel {at} differs");
-        }
-    }
-    let times = picture.timed(|library| {
-        let (mut turn, places, picture) = (0, &places, &picture);
-        Box::new(move || {
-            turn = (turn + 1) % places.len();
-            black_box(picture.texel(library, places[turn] % width, places[turn] / width));
-        })
-    });
-    line("texel", &times, 1.0);
 }

@@ -1,4 +1,5 @@
-// The two decoders: the Rust original, whose text is taken in unchanged, and ours, as include/plate.h declares it, with the program's function beside them.
+// The two decoders: the Rust original, whose text is taken in unchanged, and ours, as include/plate.h declares it; beside them the program's
+// function.
 
 #[allow(dead_code)]
 pub mod original {
@@ -7,9 +8,9 @@ pub mod original {
 
 #[allow(dead_code)]
 extern "C" {
-    pub fn plate_texel(data: *const u8, len: usize, width: u64, height: u64, depth: u32, x: u64, y: u64) -> u64;
-    pub fn plate_row(data: *const u8, len: usize, width: u64, height: u64, depth: u32, y: u64, row: *mut u32, room: usize) -> u64;
-    pub fn plate_picture(data: *const u8, len: usize, width: u64, height: u64, depth: u32, image: *mut u32, room: usize) -> u64;
+    pub fn plate_texel(data: *const u8, len: usize, width: u64, height: u64, depth: u32, mode: u32, x: u64, y: u64) -> u64;
+    pub fn plate_row(data: *const u8, len: usize, width: u64, height: u64, depth: u32, mode: u32, y: u64, row: *mut u32, room: usize) -> u64;
+    pub fn plate_picture(data: *const u8, len: usize, width: u64, height: u64, depth: u32, mode: u32, image: *mut u32, room: usize) -> u64;
     pub fn plate_header(file: *const u8, len: usize, field: u32) -> u64;
     pub fn plate_ktx(file: *const u8, len: usize, field: u32) -> u64;
     pub fn plate_ktx_picture(file: *const u8, len: usize, image: *mut u32, room: usize) -> u64;

@@ -1,8 +1,9 @@
 // Compares the calls of include/plate.h with the Rust original: refusals, texels, and the lent words that were not to be written.
 //
-// Our calls are lent memory that ends where a page may not be touched, with words before it that must stay. A picture is decoded by both;
-// its rows, or one row if it is large, and a texel of each are then asked for by the other calls, and then the same data is read as a KTX
-// file. Where the original is no oracle (document 01's domain), the answer is held to document 01's table of refusals.
+// Our calls are lent memory that ends where a page may not be touched, with words before it that must stay. A picture is decoded by both, in the
+// Rust's mode and in the stored one; its rows, or one row if it is large, and a texel of each are then asked for by the other calls, and then the
+// same data is read as a KTX file, which is the stored mode. Where the original is no oracle (document 01's domain), the answer is held to
+// document 01's table of refusals, over the mode's grid.
 
 extern crate color;
 
@@ -10,9 +11,14 @@ mod both;
 mod families;
 mod guarded;
 mod ktx;
+mod shape;
 
 use both::{original, plate_convert, plate_header, plate_picture, plate_row, plate_texel};
 use guarded::Guarded;
+use shape::{Shape, RUSTS, STORED};
+
+// Numbers that all say the stored mode.
+const STORED_NUMBERS: [u32; 4] = [STORED, 2, 0x8000_0000, u32::MAX];
 
 // Words before a lent buffer that must stay.
 const BEFORE: usize = 64;
@@ -39,54 +45,111 @@ fn before_stays(lent: &[u32]) -> bool {
     (0..BEFORE).all(|i| lent[i] == old_word(i.wrapping_sub(BEFORE)))
 }
 
+// Whether those stay, and the lent ones from word `from` on.
+fn stays_from(lent: &[u32], from: usize) -> bool {
+    before_stays(lent) && (from..lent.len() - BEFORE).all(|i| lent[BEFORE + i] == old_word(i))
+}
+
 // The first number of an order whose condition holds, or 0.
 fn first(order: &[u64], faulty: impl Fn(u64) -> bool) -> u64 {
     order.iter().copied().find(|number| faulty(*number)).unwrap_or(0)
 }
 
-// A picture's size and depth.
-#[derive(Clone, Copy)]
-pub struct Shape {
-    pub width: usize,
-    pub height: usize,
-    pub is2bpp: bool,
-}
-
 impl Shape {
-    pub fn blocks(self) -> (usize, usize) {
-        (self.width.div_ceil(if self.is2bpp { 8 } else { 4 }), self.height.div_ceil(4))
-    }
-
-    // The bytes that the picture needs.
-    pub fn need(self) -> usize {
-        let (across, down) = self.blocks();
-        8 * across * down
-    }
-
-    // Whether a number's condition holds, of the documents' and of the program's, with so many bytes of data and lent words.
-    fn faulty(self, number: u64, len: usize, room: usize) -> bool {
-        let (across, down) = self.blocks();
+    // Whether a number's condition holds, of the documents' and of the program's, in a mode, with so many bytes of data and lent words.
+    fn faulty(self, number: u64, mode: u32, len: usize, room: usize) -> bool {
+        let (across, down) = self.blocks(mode);
         match number {
             1 => self.width == 0 || self.height == 0,
             2 => self.width > 65536 || self.height > 65536,
             22 => self.width > 1024 || self.height > 1024,
-            23 => self.need() > 32768,
-            3 => len < self.need(),
-            4 => room < self.width * self.height,
+            23 => self.need(mode) > 32768,
+            3 => len < self.need(mode),
+            4 => room < self.texels(),
             5 => !across.is_power_of_two() || !down.is_power_of_two(),
             _ => panic!("a picture has no condition {number}"),
         }
     }
 
     // Document 01's number for a call that writes a picture.
-    fn refusal(self, len: usize, room: usize) -> u64 {
-        first(&[1, 2, 3, 4, 5], |number| self.faulty(number, len, room))
+    fn refusal(self, mode: u32, len: usize, room: usize) -> u64 {
+        first(&[1, 2, 3, 4, 5], |number| self.faulty(number, mode, len, room))
     }
 
     // Whether the original is the oracle.
-    fn in_domain(self, len: usize) -> bool {
-        let half_the_need = !self.is2bpp && (self.need() / 2..self.need()).contains(&len);
+    fn in_domain(self, mode: u32, len: usize) -> bool {
+        let half_the_need = !self.is2bpp && (self.need(mode) / 2..self.need(mode)).contains(&len);
         (1..=65536).contains(&self.width) && (1..=65536).contains(&self.height) && !half_the_need
+    }
+}
+
+// A picture as our calls are asked for it: its data where that is lent, its size and depth, and the mode's number.
+#[derive(Clone, Copy)]
+struct Asked {
+    at: *const u8,
+    len: usize,
+    s: Shape,
+    mode: u32,
+}
+
+impl Asked {
+    fn picture(self, image: &mut [u32]) -> u64 {
+        let (w, h, depth) = self.s.numbers();
+        unsafe { plate_picture(self.at, self.len, w, h, depth, self.mode, image.as_mut_ptr(), image.len()) }
+    }
+
+    fn row(self, y: usize, row: &mut [u32]) -> u64 {
+        let (w, h, depth) = self.s.numbers();
+        unsafe { plate_row(self.at, self.len, w, h, depth, self.mode, y as u64, row.as_mut_ptr(), row.len()) }
+    }
+
+    fn texel(self, x: usize, y: usize) -> u64 {
+        let (w, h, depth) = self.s.numbers();
+        unsafe { plate_texel(self.at, self.len, w, h, depth, self.mode, x as u64, y as u64) }
+    }
+
+    fn told(self) -> String {
+        format!("{} x {}, {} bits, mode {}, {} bytes", self.s.width, self.s.height, self.s.bits(), self.mode, self.len)
+    }
+}
+
+// How much was compared.
+#[derive(Clone, Copy, Default)]
+struct Tally {
+    cases: u64,
+    refused: u64,
+    texels: u64,
+}
+
+impl Tally {
+    // A case that is refused with this number or, if it is 0, gives so many texels.
+    fn count(&mut self, refused: u64, texels: usize) {
+        self.cases += 1;
+        if refused == 0 {
+            self.texels += texels as u64;
+        } else {
+            self.refused += 1;
+        }
+    }
+}
+
+// What the cases are: each has its tally.
+const CASES: [&str; 4] = [
+    "pictures in the Rust's mode",
+    "pictures in the stored mode, the same grid",
+    "pictures in the stored mode, a larger grid",
+    "files refused by their header",
+];
+const RUSTS_GRID: usize = 0;
+const SAME_GRID: usize = 1;
+const LARGER_GRID: usize = 2;
+const BY_HEADER: usize = 3;
+
+fn case_of(s: Shape, mode: u32) -> usize {
+    match mode {
+        RUSTS => RUSTS_GRID,
+        _ if s.has_more(mode) => LARGER_GRID,
+        _ => SAME_GRID,
     }
 }
 
@@ -96,10 +159,8 @@ pub struct Comparison {
     row: Guarded,
     out: Guarded,
     theirs: Vec<u32>,
-    pub cases: u64,
-    pub texels: u64,
-    pub refused: u64,
-    pub by_original: u64,
+    tallies: [Tally; CASES.len()],
+    by_original: u64,
     ktx: ktx::Counts,
     smallest: Option<(usize, String)>,
     differences: u64,
@@ -128,10 +189,10 @@ impl Comparison {
         lent.as_ptr()
     }
 
-    // What the original answers and leaves in `theirs`, as document 01's number.
-    fn original(&mut self, data: &[u8], s: Shape) -> u64 {
+    // What the original answers in a mode and leaves in `theirs`, as document 01's number.
+    fn original(&mut self, data: &[u8], s: Shape, mode: u32) -> u64 {
         self.by_original += 1;
-        match original::decode_pvrtc(data, s.width, s.height, &mut self.theirs, s.is2bpp) {
+        match s.original(data, &mut self.theirs, mode) {
             Ok(()) => 0,
             Err("The data buffer is too small!") => 3,
             Err("The image buffer is too small!") => 4,
@@ -140,61 +201,94 @@ impl Comparison {
         }
     }
 
+    // What the block call must answer in a mode. What `room` lent words must then hold is left in `theirs`.
+    fn expect(&mut self, data: &[u8], s: Shape, mode: u32, room: usize) -> u64 {
+        self.theirs.clear();
+        self.theirs.extend((0..room).map(old_word));
+        let by_table = s.refusal(mode, data.len(), room);
+        let expected = if s.in_domain(mode, data.len()) { self.original(data, s, mode) } else { by_table };
+        assert_eq!(expected, by_table, "document 01's table and the original disagree");
+        expected
+    }
+
     // One picture of `data`, into `room` lent words, by the calls that take data, and as a KTX file.
     pub fn picture(&mut self, data: &[u8], s: Shape, room: usize) {
         self.decoded(data, s, room);
         self.wrapped(data, s, room);
     }
 
-    // One picture of `data`, into `room` lent words, with its rows and some of its texels. What the lent words must hold is left in `theirs`.
+    // One picture of `data`, into `room` lent words, in the Rust's mode and then in the stored one, of which `theirs` is left. Where both have
+    // the same grid, what must come out in the one must come out in the other.
     fn decoded(&mut self, data: &[u8], s: Shape, room: usize) {
-        self.cases += 1;
-        self.theirs.clear();
-        self.theirs.extend((0..room).map(old_word));
-        let expected = if s.in_domain(data.len()) { self.original(data, s) } else { s.refusal(data.len(), room) };
-        assert_eq!(expected, s.refusal(data.len(), room), "document 01's table and the original disagree");
+        let mut expected = self.expect(data, s, RUSTS, room);
+        self.calls(data, s, RUSTS, expected);
+        if s.has_more(STORED) {
+            expected = self.expect(data, s, STORED, room);
+        }
+        let number = STORED_NUMBERS[self.draw() as usize % STORED_NUMBERS.len()];
+        self.calls(data, s, number, expected);
+    }
 
-        let (at, w, h, depth) = (self.lay(data), s.width as u64, s.height as u64, s.is2bpp as u32);
+    // One picture in a mode, with its rows and some of its texels: the number must be the expected one, and the lent words as in `theirs`.
+    fn calls(&mut self, data: &[u8], s: Shape, mode: u32, expected: u64) {
+        let (asked, room) = (Asked { at: self.lay(data), len: data.len(), s, mode }, self.theirs.len());
         let lent = self.image.words(BEFORE + room);
         fill_old(lent);
-        let answer = unsafe { plate_picture(at, data.len(), w, h, depth, lent[BEFORE..].as_mut_ptr(), room) };
-
-        let what = |call: &str| format!("{call}: {} x {}, {} bits, {} bytes, {room} words", w, h, if s.is2bpp { 2 } else { 4 }, data.len());
+        let answer = asked.picture(&mut lent[BEFORE..]);
         if answer != expected || !before_stays(lent) || lent[BEFORE..] != self.theirs[..] {
-            self.differs(data.len() + room, what(&format!("picture answers {answer}, expected {expected}")));
+            self.differs(data.len() + room, format!("picture answers {answer}, expected {expected}: {}, {room} words", asked.told()));
         }
-        if expected == 0 {
-            self.texels += w * h;
-            if s.width * s.height > LARGE {
-                let y = self.draw() as usize % s.height;
-                self.row_and_texel(at, data.len(), s, y);
-            } else {
-                (0..s.height).for_each(|y| self.row_and_texel(at, data.len(), s, y));
-            }
-        } else {
-            self.refused += 1;
+        self.tallies[case_of(s, mode)].count(expected, s.texels());
+        match expected {
+            0 => self.rows_and_texels(asked),
+            4 => (),
+            _ => self.row_and_texel(asked, 0, expected),
         }
     }
 
-    // Row y of the picture in `theirs`, and a texel of it.
-    fn row_and_texel(&mut self, at: *const u8, len: usize, s: Shape, y: usize) {
-        let (w, h, depth) = (s.width as u64, s.height as u64, s.is2bpp as u32);
-        let (x, more) = (self.draw() as usize % s.width, self.draw() as usize % 3);
-        let room = s.width + more;
+    // All rows of the picture in `theirs`, or one of a large picture, and those that it does not have.
+    fn rows_and_texels(&mut self, asked: Asked) {
+        if asked.s.texels() > LARGE {
+            let y = self.draw() as usize % asked.s.height;
+            self.row_and_texel(asked, y, 0);
+        } else {
+            (0..asked.s.height).for_each(|y| self.row_and_texel(asked, y, 0));
+        }
+        self.past_the_sides(asked);
+    }
+
+    // The row below a picture and texels beside it: refused, though a larger grid has blocks there.
+    fn past_the_sides(&mut self, asked: Asked) {
+        let (width, height) = (asked.s.width, asked.s.height);
+        let lent = self.row.words(BEFORE + width);
+        fill_old(lent);
+        let (row, texels) = (asked.row(height, &mut lent[BEFORE..]), [asked.texel(width, 0), asked.texel(0, height)]);
+        if row != 6 || !stays_from(lent, 0) || texels != [6 << 32; 2] {
+            self.differs(asked.len + width, format!("past the sides row answers {row}, texels are {texels:x?}: {}", asked.told()));
+        }
+    }
+
+    // Row y of the picture in `theirs`, and a texel of it; or both refused as the picture is, for something else than its room. A row that is
+    // refused before its room is asked for gets next to none.
+    fn row_and_texel(&mut self, asked: Asked, y: usize, refused: u64) {
+        let width = asked.s.width;
+        let (x, more) = (self.draw() as usize % width.max(1), self.draw() as usize % 3);
+        let room = more + if matches!(refused, 1..=3) { 0 } else { width };
+        let written = if refused == 0 { width } else { 0 };
         let lent = self.row.words(BEFORE + room);
         fill_old(lent);
-        let answer = unsafe { plate_row(at, len, w, h, depth, y as u64, lent[BEFORE..].as_mut_ptr(), room) };
-        let rest_stays = before_stays(lent) && (s.width..room).all(|i| lent[BEFORE + i] == old_word(i));
-        let right = lent[BEFORE..][..s.width] == self.theirs[y * s.width..][..s.width];
-        let texel = unsafe { plate_texel(at, len, w, h, depth, x as u64, y as u64) };
-        let same = texel == self.theirs[y * s.width + x] as u64;
-        if answer != 0 || !rest_stays || !right {
-            self.differs(len + room, format!("row {y} answers {answer}: {w} x {h}, depth {depth}, {len} bytes"));
+        let answer = asked.row(y, &mut lent[BEFORE..]);
+        let right = lent[BEFORE..][..written] == self.theirs[y * width..][..written];
+        if answer != refused || !stays_from(lent, written) || !right {
+            self.differs(asked.len + room, format!("row {y} answers {answer}, expected {refused}: {}, {room} words", asked.told()));
         }
-        if !same {
-            self.differs(len + room, format!("texel {x} {y} is {texel:x}: {w} x {h}, depth {depth}, {len} bytes"));
+        let (texel, expected) = (asked.texel(x, y), if refused == 0 { self.theirs[y * width + x] as u64 } else { refused << 32 });
+        if texel != expected {
+            self.differs(asked.len + room, format!("texel {x} {y} is {texel:x}, expected {expected:x}: {}", asked.told()));
         }
-        self.texels += w + 1;
+        if refused == 0 {
+            self.tallies[case_of(asked.s, asked.mode)].texels += width as u64 + 1;
+        }
     }
 
     // What the program must write for a plate that it refuses with this number, or not: the line of the refusal, or the picture by the original.
@@ -203,8 +297,8 @@ impl Comparison {
             return line(refused);
         }
         self.theirs.clear();
-        self.theirs.resize(s.width * s.height, 0);
-        self.original(data, s);
+        self.theirs.resize(s.texels(), 0);
+        self.original(data, s, STORED);
         let (w, h) = ((s.width as u16).to_le_bytes(), (s.height as u16).to_le_bytes());
         let mut tga = vec![0, 0, 2, 0, 0, 0, 0, 0, 0, 0, 0, 0, w[0], w[1], h[0], h[1], 0x20, 0x28];
         tga.extend(self.theirs.iter().flat_map(|word| word.to_le_bytes()));
@@ -243,17 +337,16 @@ impl Comparison {
         let data = file.get(fields[4] as usize..).unwrap_or(&[]);
         let refused = match fields[0] {
             0 if fields[4] - 52 > 4096 => 21,
-            0 => first(&[1, 22, 23, 3, 5], |number| shape.faulty(number, data.len(), WORDS)),
+            0 => first(&[1, 22, 23, 3, 5], |number| shape.faulty(number, STORED, data.len(), WORDS)),
             number => number,
         };
         let expected = self.expected_output(refused, shape, data);
         self.converted(at, file, &expected);
         if fields[0] != 0 {
-            self.cases += 1;
-            self.refused += 1;
+            self.tallies[BY_HEADER].count(fields[0], 0);
         } else {
             let small = shape.width.saturating_mul(shape.height) <= 4096;
-            let room = if small { shape.width * shape.height } else { 16 };
+            let room = if small { shape.texels() } else { 16 };
             self.picture(data, shape, room);
         }
     }
@@ -269,11 +362,11 @@ fn bytes(file: &[u8]) -> String {
     format!("{} bytes, {:02x?}", file.len(), &file[..file.len().min(512)])
 }
 
-// Inputs off the original's domain: what it does there, and what ours answers. docs/DIFFERENCES.md says why.
-fn off_the_domain() {
+// Inputs where we differ from the original: what it does there, and what ours answers in either mode. docs/DIFFERENCES.md says why.
+fn where_we_differ() {
     std::panic::set_hook(Box::new(|_| {}));
-    println!("| off the domain | the original | ours |");
-    println!("|---|---|---|");
+    println!("| where we differ | the original | ours, the Rust's mode | ours, the stored mode |");
+    println!("|---|---|---|---|");
     let cases = [
         (1, 1, 4, 1, false),
         (1, 1, 7, 1, false),
@@ -285,24 +378,49 @@ fn off_the_domain() {
         (131069, 1, 262144, 131069, false),
         (131064, 1, 131072, 131064, true),
         (131065, 1, 131072, 131065, true),
+        (1, 1, 8, 1, false),
+        (1, 1, 31, 1, false),
+        (1, 1, 32, 1, false),
     ];
     for (width, height, len, room, is2bpp) in cases {
-        let (data, mut image) = (vec![0; len], vec![0; room]);
+        let (data, mut image, s) = (vec![0; len], vec![0; room], Shape { width, height, is2bpp });
         let theirs = std::panic::catch_unwind(|| original::decode_pvrtc(&data, width, height, &mut vec![0; room], is2bpp));
         let said = theirs.map_or("panics".to_string(), |answer| format!("{answer:?}"));
-        let ours = unsafe { plate_picture(data.as_ptr(), len, width as u64, height as u64, is2bpp as u32, image.as_mut_ptr(), room) };
-        println!("| {width} × {height} at {}bpp, {len} bytes, {room} words | {said} | {ours} |", if is2bpp { 2 } else { 4 });
+        let [rusts, stored] = [RUSTS, STORED].map(|mode| Asked { at: data.as_ptr(), len, s, mode }.picture(&mut image));
+        println!("| {width} × {height} at {}bpp, {len} bytes, {room} words | {said} | {rusts} | {stored} |", s.bits());
     }
     let _ = std::panic::take_hook();
     println!();
 }
 
 // What is counted, as the table's columns.
-const COUNTED: [&str; 7] = ["cases", "answered by the original", "refused", "texels compared", "KTX files", "refused", "texels compared"];
+const COUNTED: [&str; 8] = [
+    "cases",
+    "in the stored mode with a larger grid",
+    "answers of the original",
+    "refused",
+    "texels compared",
+    "KTX files",
+    "refused",
+    "texels compared",
+];
 
 impl Comparison {
     fn counts(&self) -> [u64; COUNTED.len()] {
-        [self.cases, self.by_original, self.refused, self.texels, self.ktx.files, self.ktx.refused, self.ktx.texels]
+        let sum = |of: fn(&Tally) -> u64| self.tallies.iter().map(of).sum();
+        let (cases, refused, texels) = (sum(|t| t.cases), sum(|t| t.refused), sum(|t| t.texels));
+        let files = self.ktx.files;
+        [cases, self.tallies[LARGER_GRID].cases, self.by_original, refused, texels, files.cases, files.refused, files.texels]
+    }
+
+    // What the cases were.
+    fn print_cases(&self) {
+        println!();
+        println!("| what was asked | cases | refused | texels compared |");
+        println!("|---|---|---|---|");
+        for (what, tally) in CASES.iter().zip(self.tallies) {
+            println!("| {what} | {} | {} | {} |", tally.cases, tally.refused, tally.texels);
+        }
     }
 }
 
@@ -312,7 +430,7 @@ fn print_row(name: &str, counts: impl Iterator<Item = u64>, since: std::time::In
 }
 
 fn main() {
-    off_the_domain();
+    where_we_differ();
     let largest: usize = std::env::args().nth(1).and_then(|n| n.parse().ok()).expect("the side of the largest picture");
     let room = 4 * (largest * largest).max(65536 * 64) + 4096;
     let mut c = Comparison {
@@ -321,9 +439,7 @@ fn main() {
         row: Guarded::new(4 * (65536 + 4096)),
         out: Guarded::new(OUT),
         theirs: Vec::new(),
-        cases: 0,
-        texels: 0,
-        refused: 0,
+        tallies: [Tally::default(); CASES.len()],
         by_original: 0,
         ktx: ktx::Counts::default(),
         smallest: None,
@@ -341,6 +457,7 @@ fn main() {
         print_row(name, c.counts().iter().zip(before).map(|(after, before)| after - before), since);
     }
     print_row("all", c.counts().into_iter(), start);
+    c.print_cases();
     c.ktx.print();
     match c.smallest {
         None => println!("no difference"),

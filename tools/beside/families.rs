@@ -1,12 +1,13 @@
 // The families of inputs that are compared.
 
 use crate::ktx::{Reading, Wrap};
-use crate::{Comparison, Shape};
+use crate::shape::{Shape, RUSTS, STORED};
+use crate::Comparison;
 
 pub const ALL: [(&str, fn(&mut Comparison, usize)); 10] = [
     ("sizes 1 to 40 by 1 to 40", small_sizes),
     ("grids to 64 by 64 blocks, clipped", grids),
-    ("data about 4n and 8n bytes, words about width x height", lengths),
+    ("data about 4n and 8n bytes of either mode, words about width x height", lengths),
     ("every 16-bit value of A and of B", colours),
     ("every weight mode, structured words", modes),
     ("thin pictures to a side of 65,536", thin),
@@ -33,10 +34,19 @@ fn words(c: &mut Comparison, kind: usize, blocks: usize) -> Vec<u8> {
     (0..blocks).flat_map(|_| word(c, kind).to_le_bytes()).collect()
 }
 
-// A picture of just the bytes and the words that it needs, and `more` words after.
+// The needs of both modes: one, if they are equal.
+fn needs(s: Shape) -> Vec<usize> {
+    let mut needs = vec![s.need(RUSTS), s.need(STORED)];
+    needs.dedup();
+    needs
+}
+
+// A picture of just the bytes that it needs, in either mode, and the words, and `more` words after.
 fn whole(c: &mut Comparison, s: Shape, kind: usize, more: usize) {
-    let data = words(c, kind, s.need() / 8);
-    c.picture(&data, s, s.width * s.height + more);
+    for need in needs(s) {
+        let data = words(c, kind, need / 8);
+        c.picture(&data, s, s.texels() + more);
+    }
 }
 
 fn small_sizes(c: &mut Comparison, _: usize) {
@@ -68,11 +78,11 @@ fn lengths(c: &mut Comparison, _: usize) {
     for is2bpp in [false, true] {
         for (width, height) in [(1, 1), (4, 4), (8, 8), (9, 4), (16, 8), (12, 12), (31, 17), (64, 4), (5, 16)] {
             let s = Shape { width, height, is2bpp };
-            let (need, place) = (s.need(), width * height);
-            for len in (need / 2 - 2..need / 2 + 3).chain(need.saturating_sub(9)..need + 10) {
-                for room in [0, 1, place - 1, place, place + 1, place + 7] {
+            let lens = |need: usize| (need / 2 - 2..need / 2 + 3).chain(need.saturating_sub(9)..need + 10);
+            for len in needs(s).into_iter().flat_map(lens) {
+                for room in [0, 1, s.texels() - 1, s.texels(), s.texels() + 1, s.texels() + 7] {
                     let kind = c.draw() as usize;
-                    let mut data = words(c, kind, need / 8 + 2);
+                    let mut data = words(c, kind, len.div_ceil(8));
                     data.truncate(len);
                     c.picture(&data, s, room);
                 }
@@ -81,13 +91,21 @@ fn lengths(c: &mut Comparison, _: usize) {
     }
 }
 
+// A word, and three of a kind: a grid of two by two blocks, or the one block that covers a picture and what is stored beside it.
+fn with_neighbours(c: &mut Comparison, first: u64, kind: usize) -> Vec<u8> {
+    let mut data = first.to_le_bytes().to_vec();
+    data.extend(words(c, kind, 3));
+    data
+}
+
 fn colours(c: &mut Comparison, _: usize) {
     for is2bpp in [false, true] {
         for value in 0..65536 {
             for shift in [32, 48] {
-                let drawn = c.draw() & !(0xffff << shift) | value << shift;
+                let first = c.draw() & !(0xffff << shift) | value << shift;
                 let s = Shape { width: if is2bpp { 8 } else { 4 }, height: 4, is2bpp };
-                c.picture(&drawn.to_le_bytes(), s, s.width * s.height);
+                let data = with_neighbours(c, first, value as usize);
+                c.picture(&data, s, s.texels());
             }
         }
     }
@@ -100,10 +118,11 @@ fn modes(c: &mut Comparison, _: usize) {
                 for bit in 0..32 {
                     let modulation = (ground ^ 1 << bit) & !0x0010_0001 | flags & 1 | (flags >> 1 & 1) << 20;
                     let first = c.draw() << 32 & !(1 << 32) | (flags >> 2) << 32 | modulation;
-                    let mut data = first.to_le_bytes().to_vec();
-                    data.extend(words(c, bit, 3));
-                    let s = Shape { width: if is2bpp { 16 } else { 8 }, height: 8, is2bpp };
-                    c.picture(&data, s, s.width * s.height);
+                    let data = with_neighbours(c, first, bit);
+                    for side in [1, 2] {
+                        let s = Shape { width: side * if is2bpp { 8 } else { 4 }, height: side * 4, is2bpp };
+                        c.picture(&data, s, s.texels());
+                    }
                 }
             }
         }
@@ -160,7 +179,7 @@ fn damaged_files(c: &mut Comparison, _: usize) {
         let s = Shape { width: side_x as usize, height: side_y as usize, is2bpp: bits == 0 };
         file.extend(std::iter::repeat(0x6d).take(metadata as usize));
         let kind = drawn as usize >> 16;
-        file.extend(words(c, kind, s.need() / 8));
+        file.extend(words(c, kind, s.need(STORED) / 8));
         damage(c, &mut file, if turn % 2 == 0 { 52 } else { usize::MAX });
         if c.draw() % 8 == 0 {
             cut(c, &mut file);
@@ -193,7 +212,7 @@ fn set_fields(c: &mut Comparison, file: &mut [u8]) {
         let value = values[c.draw() as usize % values.len()];
         file[at..at + 4].copy_from_slice(&value.to_le_bytes());
     }
-    let (at, need) = (Reading(file).payload() - 4, Reading(file).shape().need() as u32);
+    let (at, need) = (Reading(file).payload() - 4, Reading(file).shape().need(STORED) as u32);
     if at + 4 <= file.len() && c.draw() % 2 == 0 {
         file[at..at + 4].copy_from_slice(&need.to_le_bytes());
     }
@@ -204,7 +223,7 @@ fn damaged_ktx_files(c: &mut Comparison, _: usize) {
     for turn in 0..500_000 {
         let drawn = c.draw() as usize;
         let s = Shape { width: 1 + (drawn >> 1) % 16, height: 1 + (drawn >> 5) % 16, is2bpp: drawn & 1 == 1 };
-        let data = words(c, drawn >> 16, s.need() / 8);
+        let data = words(c, drawn >> 16, s.need(STORED) / 8);
         let mut file = Wrap::drawn(&mut c.state, s, data.len()).ktx(s, &data);
         if drawn >> 9 & 3 == 0 {
             set_fields(c, &mut file);

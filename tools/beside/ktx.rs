@@ -3,7 +3,8 @@
 use std::collections::BTreeMap;
 
 use crate::both::{draw, plate_convert, plate_ktx, plate_ktx_picture};
-use crate::{before_stays, bytes, fill_old, first, line, old_word, Comparison, Shape, BEFORE, LARGE, OUT, WORDS};
+use crate::shape::{Shape, RUSTS, STORED};
+use crate::{before_stays, bytes, fill_old, first, line, stays_from, Comparison, Tally, BEFORE, BY_HEADER, LARGE, OUT, WORDS};
 
 const IDENTIFIER: [u8; 12] = [0xab, 0x4b, 0x54, 0x58, 0x20, 0x31, 0x31, 0xbb, 0x0d, 0x0a, 0x1a, 0x0a];
 
@@ -12,20 +13,20 @@ const HEADER: [u64; 6] = [31, 32, 33, 34, 35, 37];
 const PICTURE: [u64; 12] = [31, 32, 33, 34, 35, 37, 1, 2, 36, 3, 4, 5];
 const PROGRAM: [u64; 13] = [31, 32, 33, 34, 35, 21, 37, 1, 22, 23, 36, 3, 5];
 
-// How much was compared, and how often each number was the answer of the picture call and of the program's function.
+// How much was compared, and how often each number was the answer of the picture call and of the program's function; of the pictures, how many
+// store more blocks than cover them.
 #[derive(Default)]
 pub struct Counts {
-    pub files: u64,
-    pub refused: u64,
-    pub texels: u64,
+    pub files: Tally,
     pictures: BTreeMap<u64, u64>,
+    larger: u64,
     outputs: BTreeMap<u64, u64>,
 }
 
 impl Counts {
     pub fn print(&self) {
         println!();
-        println!("KTX pictures, refusal and how often: {:?}", self.pictures);
+        println!("KTX pictures, refusal and how often: {:?}; of those that are not refused, {} have a larger grid", self.pictures, self.larger);
         println!("the program's output for these files: {:?}", self.outputs);
     }
 }
@@ -63,8 +64,8 @@ impl<'a> Reading<'a> {
             35 => self.field(44) != 0 || self.field(48) != 0 || self.field(52) != 1,
             21 => self.field(60) > 4096,
             37 => self.0.len() < self.payload(),
-            36 => self.size_word() != self.shape().need(),
-            _ => self.shape().faulty(number, self.data().len(), room),
+            36 => self.size_word() != self.shape().need(STORED),
+            _ => self.shape().faulty(number, STORED, self.data().len(), room),
         }
     }
 
@@ -89,7 +90,7 @@ impl<'a> Reading<'a> {
     fn fields(&self) -> [u64; 8] {
         let s = self.shape();
         match self.header() {
-            0 => [0, s.width, s.height, if s.is2bpp { 2 } else { 4 }, self.payload(), self.size_word(), 0, 0].map(|field| field as u64),
+            0 => [0, s.width, s.height, s.bits(), self.payload(), self.size_word(), 0, 0].map(|field| field as u64),
             number => [number, 0, 0, 0, 0, 0, 0, 0],
         }
     }
@@ -125,16 +126,16 @@ impl Wrap {
 
     // The need as the size word; in one of eight files of a small picture, another number or, if it so falls, the same.
     fn size_word(state: &mut u64, s: Shape, len: usize) -> u32 {
-        let (need, drawn) = (s.need() as u32, draw(state));
-        let others = [need ^ 1, need.wrapping_add(8), need / 2, need << 8, 0, u32::MAX, len as u32, drawn as u32];
+        let (need, rusts, drawn) = (s.need(STORED) as u32, s.need(RUSTS) as u32, draw(state));
+        let others = [rusts, need ^ 1, need.wrapping_add(8), need / 2, need << 8, 0, u32::MAX, len as u32, drawn as u32];
         let large = s.width.saturating_mul(s.height) > LARGE;
-        if large || drawn >> 40 & 7 != 0 { need } else { others[(drawn >> 43 & 7) as usize] }
+        if large || drawn >> 40 & 7 != 0 { need } else { others[(drawn >> 43) as usize % others.len()] }
     }
 
     // For data of so many bytes. Bytes stand behind it only if it is enough without them.
     pub fn drawn(state: &mut u64, s: Shape, len: usize) -> Wrap {
         let drawn = draw(state);
-        let behind = if len < s.need() || drawn & 1 == 0 { 0 } else { drawn >> 1 & 15 };
+        let behind = if len < s.need(STORED) || drawn & 1 == 0 { 0 } else { drawn >> 1 & 15 };
         Wrap {
             format: 0x8c00 + s.is2bpp as u32 + (drawn >> 32 & 2) as u32,
             key_values: Wrap::key_values(state),
@@ -216,23 +217,19 @@ impl Comparison {
         fill_old(lent);
         let answer = unsafe { plate_ktx_picture(at, file.len(), lent[BEFORE..].as_mut_ptr(), room) };
         let right = match expected {
-            0 => lent[BEFORE..] == self.theirs[..],
-            _ => (0..room).all(|i| lent[BEFORE + i] == old_word(i)),
+            0 => before_stays(lent) && lent[BEFORE..] == self.theirs[..],
+            _ => stays_from(lent, 0),
         };
-        if answer != expected || !before_stays(lent) || !right {
+        if answer != expected || !right {
             self.differs(file.len() + room, format!("KTX picture answers {answer}, expected {expected}: {room} words, {}", bytes(file)));
         }
         self.count_ktx(expected, read.shape());
     }
 
     fn count_ktx(&mut self, refused: u64, s: Shape) {
-        self.ktx.files += 1;
+        self.ktx.files.count(refused, s.texels());
         *self.ktx.pictures.entry(refused).or_default() += 1;
-        if refused == 0 {
-            self.ktx.texels += (s.width * s.height) as u64;
-        } else {
-            self.ktx.refused += 1;
-        }
+        self.ktx.larger += (refused == 0 && s.has_more(STORED)) as u64;
     }
 
     // A damaged KTX file: its data by the calls that take data, if its header is accepted; then the calls on the file, and the program's function.
@@ -249,8 +246,7 @@ impl Comparison {
         if read.header() == 0 {
             self.decoded(read.data(), s, room);
         } else {
-            self.cases += 1;
-            self.refused += 1;
+            self.tallies[BY_HEADER].count(read.header(), 0);
         }
         self.ktx_calls(file, room);
         let expected = self.expected_output(read.program(), s, read.data());
