@@ -3,7 +3,7 @@ use mathlib.Core.Path.{_≡_, refl, sym, ap, ap₂, _∙_}
 use mathlib.Core.Bool.{cond}
 use mathlib.Core.List.{List, [], _∷_}
 use mathlib.Core.Logic.{_↔_}
-use Prim.Native.Nat.{ℕ, zero, suc, _+_, _*_, _/_, _%_, _≤_, _<_, max}
+use Prim.Native.Nat.{ℕ, zero, suc, _+_, _-_, _*_, _/_, _%_, _≤_, _<_, max}
 use native.Mathlib.Omega.{arith}
 use lib.Dec.{eqb}
 use lib.ListN.{length}
@@ -11,15 +11,16 @@ use Rattle.facts.specs.Bits.{flags}
 use Rattle.facts.specs.Checks.{firstOf}
 use Rattle.facts.specs.Sum.{sum}
 use Rattle.facts.specs.Tab.{tab}
+use Rattle.facts.proofs.Numbers.{split}
 use Rattle.facts.proofs.Tab.{tab-same}
 use Rattle.grid.specs.declared.Grid.{Grid}
-use Rattle.grid.specs.Grid.{blockWidth, halvings, log2, isPower, address, beside}
+use Rattle.grid.specs.Grid.{blockWidth, blocks, halvings, log2, isPower, address, beside}
 use Rattle.grid.proofs.Counts.{wide, block-below}
 use Rattle.word.specs.Word.{weight4bpp, punch4bpp, wordOf}
 use Rattle.texel.specs.Texel.{share, nineSum, scaleColor, scaleAlpha, blended, near, filled, mixed, texelIn, texelAt, gridTexel}
 use Rattle.paint.specs.Paint.{painted}
 use Rattle.pvrtc.specs.Calls.{refusal, RowDecoded}
-use Rattle.pvrtc.specs.Picture.{across, down, sideIn, pictureTexel}
+use Rattle.pvrtc.specs.Picture.{across, down, sideIn, gridOf, pictureTexel}
 use Rattle.pvrtc.specs.Refusals.{shortImage, outside}
 use Rattle.pvrtc.specs.declared.Call.{Call}
 use Rattle.pvrtc.specs.declared.Call.the-variants as call
@@ -32,11 +33,11 @@ use Rattle.pvrtc.proofs.Agree.{row-is}
 use Rattle.ktx.specs.Picture as ktx
 use Rattle.capi.specs.Plate.{Wrote}
 use Rattle.convert.specs.Output.{plateOf, levelData, tgaOf}
-use Rattle.demands.specs.Modes.{inMode, OneGrid, WhereEqual, SamePowers, ModesAgree, OneGridOneAnswer, ruby, reds, RedCorner}
+use Rattle.demands.specs.Modes.{inMode, OneGrid, WhereEqual, SamePowers, ModesAgree, OneGridOneAnswer, wholeOf, Corner, ruby, reds, RedCorner}
 use Rattle.demands.specs.Samples.{redCorner}
 use Rattle.demands.proofs.Past.{texelOf, both-read, both-written}
 use Rattle.demands.proofs.Program.{is-tga}
-use Rattle.demands.proofs.Seen.{decoded-block}
+use Rattle.demands.proofs.Seen.{decoded-block, seen}
 
 -- the TGA of a picture whose texels are f's
 abbrev tgaBy : Picture → (ℕ → ℕ → ℕ) → List ℕ
@@ -138,6 +139,18 @@ one-grid-one-answer =
       ktx = λ file old new e a. agree (ktx.plateOf file) (ktx.levelData file) e .block old new Done .1 (decoded-block file a);
       program = λ file e ok. is-tga file ok ∙ ap (λ (f : ℕ → ℕ → ℕ). tgaBy (plateOf file) f) (sym (texel (plateOf file) (levelData file) e));
     }
+
+-- so many whole blocks are counted as so many
+pub same-grid : (p : Picture) → gridOf (wholeOf p) ≡ gridOf p
+unfolding sideIn
+same-grid p = rw (counted (blockWidth (p .is2bpp)) (gridOf p .across) (wide (p .is2bpp)), counted 4 (gridOf p .down) (omega arith))
+  where
+    counted : (size n : ℕ) → 0 < size → blocks size (n * size) ≡ n
+    counted size n pos = split size (n * size + (size - 1)) n (size - 1) refl (omega arith) .0
+
+pub corner : Corner
+corner p d x y v w a b =
+    seen p d x y v a .is ∙ ap (λ (g : Grid). gridTexel g d x y) (sym (same-grid p)) ∙ sym (seen (wholeOf p) d x y w b .is)
 
 -- the reds of a ruby mark's first row
 abbrev rubyReds : GridMode → List ℕ

@@ -4,9 +4,10 @@ use mathlib.Core.Path.{_≡_}
 use mathlib.Core.Bool.{false}
 use mathlib.Core.List.{List, [], _∷_}
 use mathlib.Core.Logic.{_↔_}
-use Prim.Native.Nat.{ℕ, _/_, _%_, _≤_}
+use Prim.Native.Nat.{ℕ, _*_, _/_, _%_, _≤_}
 use lib.ListN.{getD, take}
 use Rattle.facts.specs.Tab.{tab}
+use Rattle.grid.specs.Grid.{blockWidth}
 use Rattle.ktx.specs.Picture as ktx
 use Rattle.ktx.specs.Picture.{KtxDecoded}
 use Rattle.ktx.specs.declared.Decoded.the-variants.{Done as KtxDone}
@@ -21,6 +22,7 @@ use Rattle.pvrtc.specs.declared.Picture.{Picture}
 use Rattle.pvrtc.specs.declared.Texel.{Texel}
 use Rattle.capi.specs.Plate.{texelAnswer, WroteRow, WrotePicture}
 use Rattle.convert.specs.Output.{plateOf, levelData, programRefusal, tga, output}
+use Rattle.demands.specs.Right.{Gives}
 use Rattle.demands.specs.Samples.{redCorner}
 
 -- A picture in another mode.
@@ -55,6 +57,14 @@ pub record OneGridOneAnswer : Type 0 where
   pub ktx : (file old new : List ℕ) → OneGrid (ktx.plateOf file) → KtxDecoded file old new KtxDone
       → BlockDecoded (inMode Rust (ktx.plateOf file)) (ktx.levelData file) old new Done
   pub program : (file : List ℕ) → OneGrid (plateOf file) → programRefusal file ≡ 0 → output file ≡ tga (inMode Rust (plateOf file)) (levelData file)
+
+-- The picture that a picture's whole grid covers, in the Rust's mode: it has that grid.
+abbrev pub wholeOf : Picture → Picture
+wholeOf p = let g = gridOf p in picture (g .across * blockWidth (p .is2bpp)) (g .down * 4) (p .is2bpp) Rust
+
+-- A picture in either mode is the upper left corner of that one, by whatever calls. So what the Rust decodes tells what a stored plate is.
+abbrev pub Corner : Type 0
+Corner = (p : Picture) (d : List ℕ) (x y v w : ℕ) → Gives p d x y v → Gives (wholeOf p) d x y w → v ≡ w
 
 -- A ruby mark: 4 × 4 texels at 4bpp.
 abbrev pub ruby : GridMode → Picture
