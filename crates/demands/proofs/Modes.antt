@@ -33,7 +33,7 @@ use Rattle.pvrtc.proofs.Agree.{row-is}
 use Rattle.ktx.specs.Picture as ktx
 use Rattle.capi.specs.Plate.{Wrote}
 use Rattle.convert.specs.Output.{plateOf, levelData, tgaOf}
-use Rattle.demands.specs.Modes.{inMode, OneGrid, WhereEqual, SamePowers, ModesAgree, OneGridOneAnswer, wholeOf, Corner, ruby, reds, RedCorner}
+use Rattle.demands.specs.Modes.{inMode, OneGrid, WhereEqual, SamePowers, ModesAgree, OneGridOneAnswer, wholeOf, Corner, ruby, fourLent, reds, RedCorner}
 use Rattle.demands.specs.Samples.{redCorner}
 use Rattle.demands.proofs.Past.{texelOf, both-read, both-written}
 use Rattle.demands.proofs.Program.{is-tga}
@@ -156,7 +156,7 @@ corner p d x y v w a b =
 abbrev rubyReds : GridMode → List ℕ
 rubyReds mode = tab (λ x. pictureTexel (ruby mode) redCorner x 0 / 65536 % 256) 4
 
-reds-are : (mode : GridMode) {old new : List ℕ} → RowDecoded (ruby mode) redCorner 0 old new Done → reds new ≡ rubyReds mode
+reds-are : (mode : GridMode) {new : List ℕ} → RowDecoded (ruby mode) redCorner 0 fourLent new Done → reds new ≡ rubyReds mode
 reds-are mode w = tab-same _ _ 4 (λ x l. ap (λ (v : ℕ). v / 65536 % 256) (row-is (ruby mode) redCorner x 0 l w))
 
 rust-reds : rubyReds Rust ≡ 255 ∷ 255 ∷ 255 ∷ 255 ∷ []
@@ -171,8 +171,8 @@ pub red-corner : RedCorner
 unfolding firstOf shortImage outside halvings log2 sideIn
 red-corner =
     record {
-      rust = λ old new w. reds-are Rust w ∙ rust-reds;
-      stored = λ old new w. reds-are Stored w ∙ stored-reds;
+      rust = λ new r w. (w .number, reds-are Rust (record { number = refl; words = w .words }) ∙ rust-reds);
+      stored = λ new r w. (w .number, reds-are Stored (record { number = refl; words = w .words }) ∙ stored-reds);
       rust-need = λ r t. t .number;
       rust-short = λ r t. t .number;
       stored-need = λ r t. t .number;

@@ -5,7 +5,7 @@ use mathlib.Core.Bool.{false}
 use mathlib.Core.List.{List, [], _∷_}
 use mathlib.Core.Logic.{_↔_}
 use Prim.Native.Nat.{ℕ, _*_, _/_, _%_, _≤_}
-use lib.ListN.{getD, take}
+use lib.ListN.{getD, take, replicate}
 use Rattle.facts.specs.Tab.{tab}
 use Rattle.grid.specs.Grid.{blockWidth}
 use Rattle.ktx.specs.Picture as ktx
@@ -13,7 +13,7 @@ use Rattle.ktx.specs.Picture.{KtxDecoded}
 use Rattle.ktx.specs.declared.Decoded.the-variants.{Done as KtxDone}
 use Rattle.pvrtc.specs.Calls.{TexelRead, RowDecoded, BlockDecoded}
 use Rattle.pvrtc.specs.Picture.{picture, across, down, gridOf}
-use Rattle.pvrtc.specs.Refusals.{zeroSide, notPower, texelNumber}
+use Rattle.pvrtc.specs.Refusals.{zeroSide, notPower, decodedNumber, texelNumber}
 use Rattle.pvrtc.specs.declared.Decoded.{Decoded}
 use Rattle.pvrtc.specs.declared.Decoded.the-variants.{Done}
 use Rattle.pvrtc.specs.declared.GridMode.{GridMode}
@@ -70,16 +70,21 @@ Corner = (p : Picture) (d : List ℕ) (x y v w : ℕ) → Gives p d x y v → Gi
 abbrev pub ruby : GridMode → Picture
 ruby mode = picture 4 4 false mode
 
--- The reds of four words.
+-- Four lent words, and the reds of four words.
+abbrev pub fourLent : List ℕ
+fourLent = replicate 4 0
+
 abbrev pub reds : List ℕ → List ℕ
 reds words = tab (λ x. getD words x 0 / 65536 % 256) 4
 
 -- The red corner: a ruby mark of four blocks, the first of them red and the others black, tells the modes apart.
 pub record RedCorner : Type 0 where
   -- In the Rust's mode the first block is alone, and its own neighbour on each side.
-  pub rust : (old new : List ℕ) → RowDecoded (ruby Rust) redCorner 0 old new Done → reds new ≡ 255 ∷ 255 ∷ 255 ∷ 255 ∷ []
+  pub rust : (new : List ℕ) (r : Decoded) → RowDecoded (ruby Rust) redCorner 0 fourLent new r
+      → (decodedNumber r ≡ 0) × (reds new ≡ 255 ∷ 255 ∷ 255 ∷ 255 ∷ [])
   -- In the stored mode all four are read.
-  pub stored : (old new : List ℕ) → RowDecoded (ruby Stored) redCorner 0 old new Done → reds new ≡ 63 ∷ 95 ∷ 127 ∷ 95 ∷ []
+  pub stored : (new : List ℕ) (r : Decoded) → RowDecoded (ruby Stored) redCorner 0 fourLent new r
+      → (decodedNumber r ≡ 0) × (reds new ≡ 63 ∷ 95 ∷ 127 ∷ 95 ∷ [])
   -- The one needs eight bytes, the other all 32.
   pub rust-need : (r : Texel) → TexelRead (ruby Rust) (take 8 redCorner) 0 0 r → texelNumber r ≡ 0
   pub rust-short : (r : Texel) → TexelRead (ruby Rust) (take 7 redCorner) 0 0 r → texelNumber r ≡ 3
