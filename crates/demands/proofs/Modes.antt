@@ -159,20 +159,16 @@ rubyReds mode = tab (λ x. pictureTexel (ruby mode) redCorner x 0 / 65536 % 256)
 reds-are : (mode : GridMode) {new : List ℕ} → RowDecoded (ruby mode) redCorner 0 fourLent new Done → reds new ≡ rubyReds mode
 reds-are mode w = tab-same _ _ 4 (λ x l. ap (λ (v : ℕ). v / 65536 % 256) (row-is (ruby mode) redCorner x 0 l w))
 
-rust-reds : rubyReds Rust ≡ 255 ∷ 255 ∷ 255 ∷ 255 ∷ []
+computed : (rubyReds Rust ≡ 255 ∷ 255 ∷ 255 ∷ 255 ∷ []) × (rubyReds Stored ≡ 63 ∷ 95 ∷ 127 ∷ 95 ∷ [])
 unfolding tab flags sum halvings log2 address beside weight4bpp punch4bpp wordOf share nineSum scaleColor scaleAlpha blended near filled mixed texelIn texelAt sideIn
-rust-reds = refl
-
-stored-reds : rubyReds Stored ≡ 63 ∷ 95 ∷ 127 ∷ 95 ∷ []
-unfolding tab flags sum halvings log2 address beside weight4bpp punch4bpp wordOf share nineSum scaleColor scaleAlpha blended near filled mixed texelIn texelAt sideIn
-stored-reds = refl
+computed = (refl, refl)
 
 pub red-corner : RedCorner
 unfolding firstOf shortImage outside halvings log2 sideIn
 red-corner =
     record {
-      rust = λ new r w. (w .number, reds-are Rust (record { number = refl; words = w .words }) ∙ rust-reds);
-      stored = λ new r w. (w .number, reds-are Stored (record { number = refl; words = w .words }) ∙ stored-reds);
+      rust = λ new r w. (w .number, reds-are Rust (record { number = refl; words = w .words }) ∙ computed .0);
+      stored = λ new r w. (w .number, reds-are Stored (record { number = refl; words = w .words }) ∙ computed .1);
       rust-need = λ r t. t .number;
       rust-short = λ r t. t .number;
       stored-need = λ r t. t .number;

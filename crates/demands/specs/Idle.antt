@@ -60,7 +60,8 @@ pub record NoIdling (two : Bool) (mode : GridMode) : Type 0 where
   pub row-told : (new : List ℕ) (r : Decoded) → RowDecoded (beside2 two mode) redCorner 2 (lentRow two) new r → decodedNumber r ≡ 0
   pub block-told : (new : List ℕ) (r : Decoded) → BlockDecoded (beside2 two mode) redCorner (lentImage two) new r → decodedNumber r ≡ 0
   -- It answers one fixed colour, and none can stand for all of these texels.
-  pub texel-varies : (v : ℕ) → TexelRead (beside2 two mode) redCorner (half two) 2 (Word v) → TexelRead (beside2 two mode) redCorner (3 * half two) 2 (Word v) → ⊥
+  pub texel-varies : (v : ℕ) → TexelRead (beside2 two mode) redCorner (half two) 2 (Word v)
+      → TexelRead (beside2 two mode) redCorner (3 * half two) 2 (Word v) → ⊥
   pub row-varies : (v : ℕ) (new : List ℕ) → RowDecoded (beside2 two mode) redCorner 2 (lentRow two) new Done → OneColour (2 * blockWidth two) v new → ⊥
   pub block-varies : (v : ℕ) (new : List ℕ) → BlockDecoded (beside2 two mode) redCorner (lentImage two) new Done → OneColour (8 * blockWidth two) v new → ⊥
   -- It writes nothing and reports success.
