@@ -30,6 +30,27 @@ def plain(table, size):
     return bytearray(head + bytes((37 * i + 11) % 251 for i in range(len(head), size)))
 
 
+def draw(count, state):
+    """So many drawn numbers of 16 bits, and the generator's state afterwards."""
+    numbers = []
+    for _ in range(count):
+        state = (state * 1103515245 + 12345) % 2**31
+        numbers.append(state >> 15)
+    return numbers, state
+
+
+def draw_bytes(count, state):
+    """So many drawn bytes, an even number, two of each drawn number, and the state afterwards."""
+    numbers, state = draw(count // 2, state)
+    return b"".join(v.to_bytes(2, "little") for v in numbers), state
+
+
+def draw_words(count, state):
+    """So many drawn words, each of two drawn numbers, the lower half first."""
+    numbers, _ = draw(2 * count, state)
+    return [low | high << 16 for low, high in zip(numbers[::2], numbers[1::2])]
+
+
 def put(file, at, v):
     file[at:at + 4] = v.to_bytes(4, "little")
 

@@ -1,5 +1,5 @@
-"""A second reading of document 01 and of the KTX request, in Python: the two headers, the refusals and their orders, the pictures, and what
-`plate` writes.
+"""A second reading of document 01, of the KTX request and of the stored grid, in Python: the two headers, the refusals and their orders, the
+pictures, and what `plate` writes. Pictures are those of files, with the stored grid, where a call is not told otherwise.
 
 It shares nothing with the crates but those documents. The tools that know what must come out import it.
 """
@@ -11,6 +11,9 @@ KTX_IDENTIFIER = b"\xABKTX 11\xBB\r\n\x1A\n"
 KTX_LITTLE_ENDIAN = bytes([1, 2, 3, 4])
 
 # The refusals of each call, in their order.
+BLOCK_ORDER = (1, 2, 3, 4, 5)
+ROW_ORDER = (1, 2, 3, 4, 5, 6)
+TEXEL_ORDER = (1, 2, 3, 5, 6)
 KTX_HEADER_ORDER = (31, 32, 33, 34, 35, 37)
 KTX_PICTURE_ORDER = KTX_HEADER_ORDER + (1, 2, 36, 3, 4, 5)
 PVR_PROGRAM_ORDER = (11, 12, 13, 14, 21, 1, 22, 23, 3, 5)
@@ -55,14 +58,15 @@ class Block:
                 self.stored[4, 2] = self.stored[4, 2] + 3 & 8
 
 
-def blocks(width, height, two):
-    """How many blocks across and down."""
-    return -(-width // (8 if two else 4)), -(-height // 4)
+def blocks(width, height, two, stored=True):
+    """The blocks across and down of a picture's grid: two each way at least where it is the stored one, else those that cover the picture."""
+    across, down = -(-width // (8 if two else 4)), -(-height // 4)
+    return (max(2, across), max(2, down)) if stored else (across, down)
 
 
-def need(width, height, two):
-    """How many bytes a picture's words take."""
-    across, down = blocks(width, height, two)
+def need(width, height, two, stored=True):
+    """How many bytes the words of that grid take."""
+    across, down = blocks(width, height, two, stored)
     return 8 * across * down
 
 
@@ -82,11 +86,10 @@ def shares(size, p):
 
 
 class Grid:
-    """A picture's blocks, and what they give at a texel."""
+    """So many blocks, and what they give at a texel."""
 
-    def __init__(self, data, width, height, two):
-        self.two, self.size = two, 8 if two else 4
-        self.across, self.down = blocks(width, height, two)
+    def __init__(self, data, across, down, two):
+        self.two, self.size, self.across, self.down = two, 8 if two else 4, across, down
         self.rows = [[self.block(data, x, y) for x in range(self.across)] for y in range(self.down)]
         self.across_shares = [shares(self.size, p) for p in range(self.size)]
         self.down_shares = [shares(4, p) for p in range(4)]
@@ -137,9 +140,15 @@ class Grid:
 
 
 @functools.cache
-def decode(data, width, height, two):
+def grid_of(data, width, height, two, stored=True):
+    """A picture's grid, from the bytes that it needs. The same data is read once."""
+    return Grid(data, *blocks(width, height, two, stored), two)
+
+
+@functools.cache
+def decode(data, width, height, two, stored=True):
     """The words of a picture, in row order. The same data is decoded once."""
-    grid = Grid(data, width, height, two)
+    grid = grid_of(data, width, height, two, stored)
     return [grid.word(x, y) for y in range(height) for x in range(width)]
 
 
@@ -164,15 +173,15 @@ def first(order, faults):
     return next((number for number in order if number in faults), 0)
 
 
-def picture_faults(width, height, two, left):
-    """What is wrong with a picture that has so many bytes of data left."""
-    across, down = blocks(width, height, two)
+def picture_faults(left, width, height, two, stored=True):
+    """What is wrong with a picture for which so many bytes of data are left."""
+    across, down = blocks(width, height, two, stored)
     return holding({
         1: width == 0 or height == 0,
         2: width > 65536 or height > 65536,
         22: width > 1024 or height > 1024,
-        23: need(width, height, two) > 32768,
-        3: left < need(width, height, two),
+        23: 8 * across * down > 32768,
+        3: left < 8 * across * down,
         5: across & across - 1 or down & down - 1,
     })
 
@@ -188,7 +197,7 @@ def pvr_file(file):
         14: u32(file, 32) != 1 or u32(file, 36) != 1 or u32(file, 40) != 1 or u32(file, 44) == 0,
         21: metadata > 4096,
     })
-    return faults | picture_faults(width, height, two, len(file) - payload), plate
+    return faults | picture_faults(len(file) - payload, width, height, two), plate
 
 
 def ktx_file(file):
@@ -206,7 +215,7 @@ def ktx_file(file):
         37: payload > len(file),
         36: size != need(width, height, two),
     })
-    return faults | picture_faults(width, height, two, len(file) - payload), (width, height, two, payload, size)
+    return faults | picture_faults(len(file) - payload, width, height, two), (width, height, two, payload, size)
 
 
 def ktx_header(file):

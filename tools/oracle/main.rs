@@ -13,6 +13,7 @@ mod pvrtc {
 
     mod call;
     pub mod leaves;
+    pub mod modes;
     pub mod pictures;
     pub mod texels;
 }
@@ -21,10 +22,13 @@ fn main() {
     let name = std::env::args().nth(1).unwrap_or_default();
     match name.as_str() {
         "leaves" => pvrtc::leaves::print(),
+        "modes" => pvrtc::modes::print(),
         "pictures" => pvrtc::pictures::print(),
         "texels" => pvrtc::texels::print(),
         _ => {
-            eprintln!("oracle: no listing is called '{name}'; there are: leaves, pictures, texels");
+            eprintln!(
+                "oracle: no listing is called '{name}'; there are: leaves, modes, pictures, texels"
+            );
             std::process::exit(2);
         }
     }

@@ -270,12 +270,11 @@ fn size_with(first: u64, second: u64, width: u32, height: u32) -> u32 {
     }
 }
 
-// The need at 4bpp of a picture with 0, 8 or 1,000 rows.
+// The need at 4bpp of a picture with 0, 8 or 1,000 rows: where there is none, of the two blocks down that are stored at least.
 fn need_of(width: u32, height: u32) -> u32 {
     let across = (width % 131072 + 3) / 4;
     match height {
-        0 => 0,
-        8 => 16 * across,
+        0 | 8 => 16 * across,
         _ => 2000 * across,
     }
 }

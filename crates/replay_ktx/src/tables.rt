@@ -255,9 +255,10 @@ pub const ROOM_CASES: [[u32; 7]; 16] = [
     [0x8c03, 12, 16, 8, 32, 112, 127],
 ];
 
-// The same for pictures of one block across or down, of which the published extension stores two by two. Each stands here with the need of the
-// blocks that cover it, and with the 32 bytes of a published file, which get 36 until the stored grid is read.
-pub const TINY: [[u32; 7]; 12] = [
+// The same for pictures of one block across or down, of which a file stores two: each with the need of the blocks that cover it, which gets 36, and with
+// that of the stored grid.
+pub const TINY: [[u32; 7]; 28] = [
+    // one block, or two
     [0x8c02, 12, 4, 4, 8, 88, 16],
     [0x8c02, 12, 4, 4, 32, 112, 16],
     [0x8c02, 12, 1, 1, 8, 88, 1],
@@ -270,6 +271,25 @@ pub const TINY: [[u32; 7]; 12] = [
     [0x8c03, 12, 8, 8, 32, 112, 64],
     [0x8c03, 12, 16, 4, 16, 96, 64],
     [0x8c03, 12, 16, 4, 32, 112, 64],
+    // one block, whose size word or data is a byte less, or whose words are too few, or more than enough
+    [0x8c02, 12, 4, 4, 31, 112, 16],
+    [0x8c02, 12, 4, 4, 32, 111, 16],
+    [0x8c02, 12, 4, 4, 32, 112, 15],
+    [0x8c02, 12, 4, 4, 32, 112, 25],
+    // the longest that the program takes, and longer ones that the library takes
+    [0x8c02, 12, 1024, 4, 2048, 4176, 4096],
+    [0x8c02, 12, 1024, 4, 4096, 4176, 4096],
+    [0x8c02, 12, 1024, 4, 4096, 4175, 4096],
+    [0x8c02, 12, 1, 1024, 4096, 4176, 1024],
+    [0x8c03, 12, 1024, 1, 2048, 2128, 1024],
+    [0x8c02, 12, 16384, 4, 65536, 65616, 65536],
+    [0x8c02, 12, 16384, 4, 65536, 65615, 65536],
+    [0x8c02, 12, 65536, 1, 131072, 66000, 65536],
+    [0x8c02, 12, 65536, 1, 262144, 66000, 65536],
+    // three blocks, six of which are stored
+    [0x8c02, 12, 9, 4, 24, 104, 36],
+    [0x8c02, 12, 9, 4, 48, 128, 36],
+    [0x8c03, 12, 4, 9, 48, 128, 36],
 ];
 
 // The refusals in an order that has both the library's and the program's.

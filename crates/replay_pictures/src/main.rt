@@ -1,11 +1,11 @@
 // Prints what the calls that write into lent words answer, with a sum over every lent word afterwards: pictures of many shapes, all rows
 // of some, and calls on both sides of each refusal. What it must print, in the file `stdout`, was written by the Rust. What prints is one
 // module, since what a function prints is nothing that it could promise.
-mod draw;
 mod sizes;
 mod tables;
 
 use pvrtc::Decoded;
+use pvrtc::GridMode;
 use pvrtc::Picture;
 
 // A call: it is told the depth, or has it in its name, or is the plain form, or asks for row y.
@@ -78,13 +78,13 @@ fn print_drawn(way: Way, size: [u16; 2], is2bpp: bool, state: u64) -> u64 {
     let bytes = sizes::bytes_of(size[0], size[1], is2bpp);
     let words = sizes::words_of(size[0], size[1]);
     let mut data = [0u8; 2048];
-    let drawn = fill_bytes(&mut data, bytes, state);
+    let drawn = draw_first(&mut data, bytes, state);
     print_call(way, picture_of(size, is2bpp), &data, bytes, words, drawn)
 }
 
 // A picture of a size.
 fn picture_of(size: [u16; 2], is2bpp: bool) -> Picture {
-    pvrtc::picture_of(size[0] as usize, size[1] as usize, is2bpp)
+    pvrtc::picture_of(size[0] as usize, size[1] as usize, is2bpp, GridMode::Rust)
 }
 
 // All rows of pictures of the listed sizes.
@@ -101,7 +101,7 @@ fn print_rows_of(size: [u16; 2], is2bpp: bool, state: u64) -> u64 {
     let bytes = sizes::bytes_of(size[0], size[1], is2bpp);
     let words = sizes::words_of(size[0], 1);
     let mut data = [0u8; 256];
-    let drawn = fill_bytes(&mut data, bytes, state);
+    let drawn = draw_first(&mut data, bytes, state);
     print_each(picture_of(size, is2bpp), &data, bytes, words, drawn)
 }
 
@@ -118,7 +118,7 @@ fn print_each(p: Picture, data: &[u8], bytes: usize, words: usize, state: u64) -
 // The calls at one depth. All get the same bytes and words, as far as they reach, so that the same picture has the same sum.
 fn print_calls(is2bpp: bool) {
     let mut data = [0u8; 262144];
-    fill_bytes(&mut data, 262144, 1);
+    samples::draw_bytes(&mut data, 1);
     print_listed_calls(&data, is2bpp);
 }
 
@@ -148,7 +148,7 @@ fn print_one_way(data: &[u8], is2bpp: bool) {
 
 // One picture call on so many bytes and words, by the fast form and by the plain one.
 fn print_both(data: &[u8], bytes: usize, words: usize, width: usize, height: usize, is2bpp: bool) {
-    let p = pvrtc::picture_of(width, height, is2bpp);
+    let p = pvrtc::picture_of(width, height, is2bpp, GridMode::Rust);
     print_call(Way::Told, p, data, bytes, words, 2);
     print_call(Way::Plain, p, data, bytes, words, 2);
 }
@@ -157,7 +157,7 @@ fn print_both(data: &[u8], bytes: usize, words: usize, width: usize, height: usi
 fn print_row_calls(calls: &[[usize; 6]], data: &[u8], is2bpp: bool) {
     for i in 0..calls.len() {
         let c = calls[i];
-        let p = pvrtc::picture_of(width_of(c[2], c[3], is2bpp), c[4], is2bpp);
+        let p = pvrtc::picture_of(width_of(c[2], c[3], is2bpp), c[4], is2bpp, GridMode::Rust);
         print_call(Way::Row(c[5]), p, data, c[0], c[1], 2);
     }
 }
@@ -177,7 +177,7 @@ fn print_call(way: Way, p: Picture, data: &[u8], bytes: usize, words: usize, sta
 
 // The call, its answer, and the sum over the lent words afterwards.
 fn print_lent(way: Way, p: Picture, data: &[u8], words: &mut [u32], state: u64) -> u64 {
-    let reached = fill_words(words, state);
+    let reached = samples::draw_words(words, state);
     print_way(way);
     print_size(p);
     print_lengths(data.len(), words.len());
@@ -191,7 +191,7 @@ fn print_lent(way: Way, p: Picture, data: &[u8], words: &mut [u32], state: u64) 
 // Makes the call.
 fn decode(way: Way, p: Picture, data: &[u8], words: &mut [u32]) -> Decoded {
     match way {
-        Way::Told => pvrtc::decode_pvrtc(data, p.width, p.height, words, p.is2bpp),
+        Way::Told => pvrtc::decode_pvrtc(data, p.width, p.height, words, p.is2bpp, GridMode::Rust),
         Way::Named => decode_named(p, data, words),
         Way::Plain => pvrtc::decode_pvrtc_plain(data, p, words),
         Way::Row(y) => pvrtc::decode_row(data, p, y, words),
@@ -201,9 +201,9 @@ fn decode(way: Way, p: Picture, data: &[u8], words: &mut [u32]) -> Decoded {
 // Makes the call that has the depth in its name.
 fn decode_named(p: Picture, data: &[u8], words: &mut [u32]) -> Decoded {
     if p.is2bpp {
-        pvrtc::decode_pvrtc_2bpp(data, p.width, p.height, words)
+        pvrtc::decode_pvrtc_2bpp(data, p.width, p.height, words, GridMode::Rust)
     } else {
-        pvrtc::decode_pvrtc_4bpp(data, p.width, p.height, words)
+        pvrtc::decode_pvrtc_4bpp(data, p.width, p.height, words, GridMode::Rust)
     }
 }
 
@@ -261,27 +261,8 @@ fn print_number(n: u64) {
     io::print_decimal(1, n);
 }
 
-// Fills the first so many bytes, two a step.
-fn fill_bytes(data: &mut [u8], bytes: usize, state: u64) -> u64 {
-    let mut reached = state;
-    let mut i = 0;
-    while i < facts::least(bytes, data.len()) {
-        reached = draw::step_before(reached, i);
-        data[i] = draw::byte_of(reached, i);
-        i += 1;
-    }
-    reached
-}
-
-// Fills all words, each in two steps.
-fn fill_words(words: &mut [u32], state: u64) -> u64 {
-    let mut reached = state;
-    let mut i = 0;
-    while i < words.len() {
-        let low = draw::step(reached);
-        reached = draw::step(low);
-        words[i] = draw::word_of(low, reached);
-        i += 1;
-    }
-    reached
+// Draws the first so many bytes.
+fn draw_first(data: &mut [u8], bytes: usize, state: u64) -> u64 {
+    let n = facts::least(bytes, data.len());
+    samples::draw_bytes(&mut data[..n], state)
 }

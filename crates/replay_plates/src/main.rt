@@ -6,12 +6,13 @@ ghost use lib.ListN.{length};
 ghost use Rattle.convert.specs.Output.{Room};
 
 // What a row says, one number or some as one: where a file is cut, a place and its four bytes, how much metadata there is and where the file ends,
-// a format and two sides, or two refusals by their places in the order.
+// a format and two sides, these and where the file ends, or two refusals by their places in the order.
 enum Row {
     Cut,
     Place,
     End,
     Size,
+    Tiny,
     Faults,
 }
 
@@ -25,6 +26,7 @@ fn print_files(bytes: &mut [u8]) {
     print_rows(Row::Place, &tables::FIELDS, bytes);
     print_rows(Row::End, &tables::ENDS, bytes);
     print_rows(Row::Size, &tables::SIZES, bytes);
+    print_rows(Row::Tiny, &tables::TINY, bytes);
     print_run(Row::Faults, 100, bytes);
 }
 
@@ -47,7 +49,8 @@ fn print_row(kind: Row, row: u64, bytes: &mut [u8]) {
         Row::Cut => print_cut(row, bytes),
         Row::Place => print_field(row, bytes),
         Row::End => print_end(row, bytes),
-        Row::Size => print_size(row, bytes),
+        Row::Size => print_size(row, 40000, bytes),
+        Row::Tiny => print_tiny(row, bytes),
         Row::Faults => print_faults(row, bytes),
     }
 }
@@ -82,7 +85,7 @@ fn print_end(row: u64, bytes: &mut [u8]) {
 }
 
 // A format and two sides of four digits each, behind as much metadata as is allowed.
-fn print_size(row: u64, bytes: &mut [u8]) {
+fn print_size(row: u64, end: usize, bytes: &mut [u8]) {
     let format = row / 100000000 % 4294967296;
     let width = row / 10000 % 10000;
     let height = row % 10000;
@@ -90,7 +93,15 @@ fn print_size(row: u64, bytes: &mut [u8]) {
     print_name(b"format", format);
     print_name(b", size", width);
     print_name(b" x", height);
-    print_answer(bytes, 40000);
+    print_answer(bytes, end);
+}
+
+// The same, and a file that ends where the last five digits say.
+fn print_tiny(row: u64, bytes: &mut [u8]) {
+    let end = row % 100000;
+    print_name(b"end", end);
+    io::write_all(1, b", ");
+    print_size(row / 100000, end as usize, bytes);
 }
 
 fn set_size(format: u32, width: u32, height: u32, bytes: &mut [u8]) {

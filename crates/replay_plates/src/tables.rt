@@ -118,5 +118,40 @@ pub const SIZES: [u64; 24] = [
     1_1024_1024,
 ];
 
+// Pictures of one block across or down, of which a file stores two: formats, widths and heights, and where the file ends, behind a third mark. The data
+// begins at 4148. Each stands here with its need, and with a byte less.
+pub const TINY: [u64; 26] = [
+    // one block: 32 bytes, and the eight of the block that covers it
+    3_0004_0004_04180,
+    3_0004_0004_04179,
+    3_0004_0004_04156,
+    2_0001_0001_04180,
+    2_0001_0001_04179,
+    1_0008_0004_04180,
+    1_0008_0004_04179,
+    1_0008_0004_04156,
+    // two blocks: 32 bytes
+    3_0008_0004_04180,
+    3_0008_0004_04179,
+    3_0004_0008_04180,
+    3_0004_0008_04179,
+    0_0016_0004_04180,
+    0_0016_0004_04179,
+    0_0008_0008_04180,
+    0_0008_0008_04179,
+    // the longest: 4,096 bytes, and at 2bpp across 2,048
+    3_1024_0004_08244,
+    3_1024_0004_08243,
+    3_0001_1024_08244,
+    3_0001_1024_08243,
+    1_1024_0001_06196,
+    1_1024_0001_06195,
+    // three blocks, six of which are stored: 48 bytes
+    3_0009_0004_04196,
+    3_0009_0004_04195,
+    1_0004_0009_04196,
+    1_0004_0009_04195,
+];
+
 // The refusals in their order.
 pub const ORDER: [u64; 10] = [11, 12, 13, 14, 21, 1, 22, 23, 3, 5];

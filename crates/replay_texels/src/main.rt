@@ -2,6 +2,7 @@
 // the file `stdout`, was written by the Rust. It is one module, since what a function prints is nothing that it could promise.
 mod tables;
 
+use pvrtc::GridMode;
 use pvrtc::Picture;
 use pvrtc::Texel;
 
@@ -104,7 +105,7 @@ fn print_kind(kind: usize) {
 
 // A picture of a size.
 fn picture_of(size: [u16; 3], is2bpp: bool) -> Picture {
-    pvrtc::picture_of(size[0] as usize, size[1] as usize, is2bpp)
+    pvrtc::picture_of(size[0] as usize, size[1] as usize, is2bpp, GridMode::Rust)
 }
 
 // One picture's texels at the chosen places.
@@ -274,7 +275,7 @@ fn print_heights(is2bpp: bool) {
 
 // One call on so many drawn bytes, of at most 96, and its answer.
 fn print_call(bytes: usize, width: usize, height: usize, is2bpp: bool, x: usize, y: usize) {
-    let p = pvrtc::picture_of(width, height, is2bpp);
+    let p = pvrtc::picture_of(width, height, is2bpp, GridMode::Rust);
     let mut data = [0u8; 96];
     fill(&mut data, [0, 0], 1);
     let n = facts::least(bytes, 96);

@@ -1,4 +1,8 @@
-// What programs of the gate share: files laid in memory, and checksums of what comes of them.
+// What programs of the gate share: files laid in memory, drawn bytes and words, and checksums of what comes of them.
+mod draw;
+
+pub use draw::draw_bytes;
+pub use draw::draw_words;
 ghost use mathlib.Core.Path.{_≡_};
 ghost use lib.ListN.{length, set};
 ghost use Rattle.facts.specs.Tab.{tab};

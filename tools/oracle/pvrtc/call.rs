@@ -1,12 +1,13 @@
 // Pictures, the calls on them, and what the table of document 01 and the original say to a call.
-use super::decode_pvrtc;
+use super::{decode_pvrtc, decode_pvrtc_2bpp, decode_pvrtc_4bpp};
 
-/// The description of a picture.
+/// The description of a picture. Its grid has the blocks that cover it, or is the stored one, with two each way at least.
 #[derive(Clone, Copy)]
 pub struct Picture {
     pub width: usize,
     pub height: usize,
     pub is2bpp: bool,
+    pub stored: bool,
 }
 
 /// A call on a picture: one texel, one row into so many lent words, or all of it into so many.
@@ -18,6 +19,16 @@ pub enum Call {
 }
 
 impl Picture {
+    /// A picture in the Rust's mode.
+    pub fn new(width: usize, height: usize, is2bpp: bool) -> Picture {
+        Picture {
+            width,
+            height,
+            is2bpp,
+            stored: false,
+        }
+    }
+
     pub fn block_width(self) -> usize {
         if self.is2bpp {
             8
@@ -27,15 +38,39 @@ impl Picture {
     }
 
     fn blocks_across(self) -> usize {
-        self.width.div_ceil(self.block_width())
+        self.in_mode(self.width.div_ceil(self.block_width()))
     }
 
     fn blocks_down(self) -> usize {
-        self.height.div_ceil(4)
+        self.in_mode(self.height.div_ceil(4))
+    }
+
+    /// The blocks along a side of the grid, where so many cover the picture.
+    fn in_mode(self, cover: usize) -> usize {
+        if self.stored {
+            cover.max(2)
+        } else {
+            cover
+        }
     }
 
     pub fn blocks(self) -> usize {
         self.blocks_across() * self.blocks_down()
+    }
+
+    fn texels(self) -> usize {
+        self.width * self.height
+    }
+
+    /// The picture that the original is asked for. Where the blocks that cover this one are its grid, it is this one. Where the stored
+    /// grid has more, it is the picture of all the grid's blocks, and this one is its upper left corner.
+    fn asked(self) -> Picture {
+        let cover = Picture::new(self.width, self.height, self.is2bpp);
+        if cover.blocks() == self.blocks() {
+            return cover;
+        }
+        let (across, down) = (self.blocks_across(), self.blocks_down());
+        Picture::new(across * self.block_width(), down * 4, self.is2bpp)
     }
 
     /// The size and the depth, as a line has them.
@@ -46,14 +81,70 @@ impl Picture {
 
     /// The whole picture as the original decodes it.
     pub fn decoded(self, data: &[u8]) -> Vec<u32> {
-        let mut image = vec![0; self.width * self.height];
-        let answer = decode_pvrtc(data, self.width, self.height, &mut image, self.is2bpp);
-        assert_eq!(answer, Ok(()), "{}", self.name());
+        let mut image = vec![0; self.texels()];
+        assert_eq!(self.decode(data, &mut image, false), 0, "{}", self.name());
         image
     }
 
+    /// The whole picture into lent words. The original writes them, or refuses in its own words and writes nothing. Where it is no
+    /// oracle, document 01 refuses, and the words stay. It is called by the name that has the depth, if that is asked for.
+    pub fn decode(self, data: &[u8], words: &mut [u32], by_name: bool) -> u32 {
+        let call = Call::Whole { words: words.len() };
+        let number = self.refusal_number(data.len(), call);
+        let Some(expected) = self.original_answer(data.len(), number) else {
+            return number;
+        };
+        let asked = self.asked();
+        let mut image = words.to_vec();
+        if number == 0 || number == 5 {
+            image.resize(image.len().max(asked.texels()), 0);
+        }
+        let before = image.clone();
+        let answer = match (by_name, asked.is2bpp) {
+            (false, _) => decode_pvrtc(data, asked.width, asked.height, &mut image, asked.is2bpp),
+            (true, false) => decode_pvrtc_4bpp(data, asked.width, asked.height, &mut image),
+            (true, true) => decode_pvrtc_2bpp(data, asked.width, asked.height, &mut image),
+        };
+        assert_eq!(answer, expected, "{}", self.name());
+        let written = if number == 0 { asked.texels() } else { 0 };
+        assert_eq!(image[written..], before[written..], "{}", self.name());
+        if number == 0 {
+            for y in 0..self.height {
+                words[y * self.width..][..self.width]
+                    .copy_from_slice(&image[y * asked.width..][..self.width]);
+            }
+        }
+        number
+    }
+
+    /// Row y into lent words: of the picture that the original decodes, where the table of document 01 refuses nothing.
+    pub fn decode_row(self, data: &[u8], y: usize, words: &mut [u32]) -> u32 {
+        let call = Call::Row {
+            y,
+            words: words.len(),
+        };
+        let number = self.refusal_number(data.len(), call);
+        self.ask_for_part(data, number);
+        if number == 0 {
+            let image = self.decoded(data);
+            words[..self.width].copy_from_slice(&image[y * self.width..][..self.width]);
+        }
+        number
+    }
+
+    /// Texel (x, y), likewise, or the number of the refusal.
+    pub fn decode_texel(self, data: &[u8], x: usize, y: usize) -> Result<u32, u32> {
+        let number = self.refusal_number(data.len(), Call::Texel { x, y });
+        self.ask_for_part(data, number);
+        if number == 0 {
+            Ok(self.decoded(data)[y * self.width + x])
+        } else {
+            Err(number)
+        }
+    }
+
     /// The number that a call on so many bytes says, 0 for none. The original has no numbers, and of the three calls only that for the
-    /// whole picture: this is written from the table of document 01, "What a call says".
+    /// whole picture: this is written from the table of document 01, "What a call says", over the grid of the picture's mode.
     pub fn refusal_number(self, bytes: usize, call: Call) -> u32 {
         let Picture { width, height, .. } = self;
         if width == 0 || height == 0 {
@@ -68,7 +159,7 @@ impl Picture {
         let is_short = match call {
             Call::Texel { .. } => false,
             Call::Row { words, .. } => words < width,
-            Call::Whole { words } => words < width * height,
+            Call::Whole { words } => words < self.texels(),
         };
         if is_short {
             return 4;
@@ -114,13 +205,17 @@ impl Picture {
         let Some(expected) = self.original_answer(data.len(), number) else {
             return;
         };
-        let words = if number == 3 {
-            0
-        } else {
-            self.width * self.height
-        };
+        let asked = self.asked();
+        let words = if number == 3 { 0 } else { asked.texels() };
         let mut image = vec![0; words];
-        let answer = decode_pvrtc(data, self.width, self.height, &mut image, self.is2bpp);
+        let answer = decode_pvrtc(data, asked.width, asked.height, &mut image, asked.is2bpp);
         assert_eq!(answer, expected, "{}", self.name());
     }
+}
+
+/// The sum over words, as the gate's programs take it. The modulus is the largest prime below 2 to the 33rd.
+pub fn sum_of(words: &[u32]) -> u64 {
+    words.iter().fold(0, |sum, &word| {
+        (sum * 1103515245 + word as u64) % 8589934583
+    })
 }

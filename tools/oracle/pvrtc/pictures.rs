@@ -1,7 +1,6 @@
 // The listing `pictures`: pictures of many shapes, all rows of some, and calls on both sides of each refusal. Each line ends with a sum
 // over every lent word after the call.
-use super::call::{Call, Picture};
-use super::{decode_pvrtc, decode_pvrtc_2bpp, decode_pvrtc_4bpp};
+use super::call::{sum_of, Picture};
 use crate::draw::Draw;
 
 /// The call of a line: it is told the depth, or has it in its name, or asks for row y.
@@ -112,11 +111,7 @@ fn print_both_ways(draw: &mut Draw) {
 
 /// One picture.
 fn print_shape(draw: &mut Draw, way: Way, width: usize, height: usize, is2bpp: bool) {
-    let picture = Picture {
-        width,
-        height,
-        is2bpp,
-    };
+    let picture = Picture::new(width, height, is2bpp);
     let data = draw.bytes(8 * picture.blocks());
     print_line(way, picture, &data, draw.words(width * height + 9));
 }
@@ -140,11 +135,7 @@ fn print_rows(draw: &mut Draw) {
         (29, 13, true),
     ];
     for (width, height, is2bpp) in pictures {
-        let picture = Picture {
-            width,
-            height,
-            is2bpp,
-        };
+        let picture = Picture::new(width, height, is2bpp);
         let data = draw.bytes(8 * picture.blocks());
         for y in 0..height {
             print_line(Way::Row(y), picture, &data, draw.words(width + 9));
@@ -155,11 +146,7 @@ fn print_rows(draw: &mut Draw) {
 /// Picture calls on both sides of each refusal, and where two refusals hold together.
 fn print_picture_calls(data: &[u8], is2bpp: bool) {
     let call = |bytes, words, width, height| {
-        let picture = Picture {
-            width,
-            height,
-            is2bpp,
-        };
+        let picture = Picture::new(width, height, is2bpp);
         print_line(Way::Told, picture, &data[..bytes], lent(words));
     };
     let [one, two, three] = widths_of_blocks(is2bpp);
@@ -230,11 +217,7 @@ fn print_picture_calls(data: &[u8], is2bpp: bool) {
 /// Row calls, likewise.
 fn print_row_calls(data: &[u8], is2bpp: bool) {
     let call = |bytes, words, width, height, y| {
-        let picture = Picture {
-            width,
-            height,
-            is2bpp,
-        };
+        let picture = Picture::new(width, height, is2bpp);
         print_line(Way::Row(y), picture, &data[..bytes], lent(words));
     };
     let [_, two, three] = widths_of_blocks(is2bpp);
@@ -291,11 +274,7 @@ fn print_row_calls(data: &[u8], is2bpp: bool) {
 /// Calls on sides of 65,536 and more, with all the bytes that they need.
 fn print_tall(data: &[u8], is2bpp: bool) {
     let call = |way, bytes, words, width, height| {
-        let picture = Picture {
-            width,
-            height,
-            is2bpp,
-        };
+        let picture = Picture::new(width, height, is2bpp);
         print_line(way, picture, &data[..bytes], lent(words));
     };
 
@@ -344,17 +323,14 @@ fn print_line(way: Way, picture: Picture, data: &[u8], words: Vec<u32>) {
 /// One call, its number, and the sum over the lent words afterwards. A picture's line begins with `form`.
 fn print_call(way: Way, picture: Picture, data: &[u8], mut words: Vec<u32>, form: &str) {
     let (label, number) = match way {
-        Way::Told => (
-            String::from(form),
-            decode(picture, data, &mut words, false),
-        ),
+        Way::Told => (String::from(form), picture.decode(data, &mut words, false)),
         Way::Named => (
             String::from("named"),
-            decode(picture, data, &mut words, true),
+            picture.decode(data, &mut words, true),
         ),
         Way::Row(y) => (
             format!("row {y} of"),
-            decode_row(picture, data, y, &mut words),
+            picture.decode_row(data, y, &mut words),
         ),
     };
     println!(
@@ -364,52 +340,4 @@ fn print_call(way: Way, picture: Picture, data: &[u8], mut words: Vec<u32>, form
         words.len(),
         sum_of(&words)
     );
-}
-
-/// The whole picture. The original writes it into the lent words, or refuses in its own words and writes nothing. Where it is no oracle,
-/// document 01 refuses, and the words stay.
-fn decode(picture: Picture, data: &[u8], words: &mut [u32], by_name: bool) -> u32 {
-    let Picture {
-        width,
-        height,
-        is2bpp,
-    } = picture;
-    let call = Call::Whole { words: words.len() };
-    let number = picture.refusal_number(data.len(), call);
-    let Some(expected) = picture.original_answer(data.len(), number) else {
-        return number;
-    };
-    let before = words.to_vec();
-    let answer = match (by_name, is2bpp) {
-        (false, _) => decode_pvrtc(data, width, height, words, is2bpp),
-        (true, false) => decode_pvrtc_4bpp(data, width, height, words),
-        (true, true) => decode_pvrtc_2bpp(data, width, height, words),
-    };
-    assert_eq!(answer, expected, "{}", picture.name());
-    let written = if number == 0 { width * height } else { 0 };
-    assert_eq!(words[written..], before[written..], "{}", picture.name());
-    number
-}
-
-/// Row y: of the picture that the original decodes, where the table of document 01 refuses nothing.
-fn decode_row(picture: Picture, data: &[u8], y: usize, words: &mut [u32]) -> u32 {
-    let call = Call::Row {
-        y,
-        words: words.len(),
-    };
-    let number = picture.refusal_number(data.len(), call);
-    picture.ask_for_part(data, number);
-    if number == 0 {
-        let width = picture.width;
-        let image = picture.decoded(data);
-        words[..width].copy_from_slice(&image[y * width..][..width]);
-    }
-    number
-}
-
-/// The sum over words, as the gate's program takes it. The modulus is the largest prime below 2 to the 33rd.
-fn sum_of(words: &[u32]) -> u64 {
-    words.iter().fold(0, |sum, &word| {
-        (sum * 1103515245 + word as u64) % 8589934583
-    })
 }

@@ -1,5 +1,5 @@
 // The listing `texels`: chosen texels of 270 pictures, then texel calls on both sides of each refusal.
-use super::call::{Call, Picture};
+use super::call::Picture;
 use crate::draw::Draw;
 
 /// The bits of a word that a kind of picture may decide: bits 0 and 20 of the modulation, the mode, and whether A and B are opaque.
@@ -77,11 +77,7 @@ fn print_pictures() {
 
 /// Pictures of one size, with words of each kind.
 fn print_kinds(draw: &mut Draw, width: usize, height: usize, is2bpp: bool) {
-    let picture = Picture {
-        width,
-        height,
-        is2bpp,
-    };
+    let picture = Picture::new(width, height, is2bpp);
     for (name, decided, set) in KINDS {
         let mut data = Vec::new();
         for _ in 0..picture.blocks() {
@@ -198,18 +194,11 @@ fn print_outside(is2bpp: bool) {
 
 /// One call on so many drawn bytes, and its answer.
 fn print_call(bytes: usize, width: usize, height: usize, is2bpp: bool, x: usize, y: usize) {
-    let picture = Picture {
-        width,
-        height,
-        is2bpp,
-    };
+    let picture = Picture::new(width, height, is2bpp);
     let data = Draw::new().bytes(bytes);
-    let number = picture.refusal_number(bytes, Call::Texel { x, y });
-    picture.ask_for_part(&data, number);
-    let answer = if number == 0 {
-        format!("{:08x}", picture.decoded(&data)[y * width + x])
-    } else {
-        format!("refused {number}")
+    let answer = match picture.decode_texel(&data, x, y) {
+        Ok(word) => format!("{word:08x}"),
+        Err(number) => format!("refused {number}"),
     };
     let name = picture.name();
     println!("call {name}, {bytes} bytes, texel {x} {y}: {answer}");

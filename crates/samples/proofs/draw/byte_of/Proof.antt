@@ -1,8 +1,8 @@
 -- `draw::byte_of` meets its contract, by which of the two bytes it is. Assumes nothing.
 use borrow.Author.Needs.{needs}
 use borrow.Author.Tests.{eq-eqb, ne-eqb}
-use Rattle.replay_pictures.proofs.draw.byte_of.Statement.{statement}
-use Rattle.replay_pictures.proofs.draw.byte_of.Tie as tie
+use Rattle.samples.proofs.draw.byte_of.Statement.{statement}
+use Rattle.samples.proofs.draw.byte_of.Tie as tie
 
 cast-result : tie.Need-cast-result
 cast-result c = search needs

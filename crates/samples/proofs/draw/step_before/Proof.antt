@@ -2,8 +2,8 @@
 use mathlib.Core.Path.{sym, _∙_}
 use borrow.Author.Needs.{needs}
 use borrow.Author.Tests.{eq-eqb, ne-eqb}
-use Rattle.replay_pictures.proofs.draw.step_before.Statement.{statement}
-use Rattle.replay_pictures.proofs.draw.step_before.Tie as tie
+use Rattle.samples.proofs.draw.step_before.Statement.{statement}
+use Rattle.samples.proofs.draw.step_before.Tie as tie
 
 step-requires : tie.Need-step-requires
 step-requires c κs = search needs
