@@ -6,8 +6,10 @@
  *   1  a side is 0                                 4  too few lent words
  *   2  a side is above 65,536                      5  blocks across or down is not a power of two
  *   3  too little data                             6  no such texel or row
- *  11  a file shorter than its header             13  a pixel format other than 0 to 3
- *  12  not a PVR version 3 file                   14  depth, surfaces or faces not 1, or no level
+ *  11  a file shorter than its header             15  the number of surfaces is not 1
+ *  12  not a PVR version 3 file                   16  the number of faces is not 1
+ *  13  a pixel format other than 0 to 3           17  the number of levels is 0
+ *  14  the texture's depth is not 1
  *  31  a KTX file shorter than its header         35  depth or array elements not 0, or faces not 1
  *  32  not a KTX version 1 file                   36  the size word is not the need
  *  33  a KTX file that is not little-endian       37  key/value bytes or size word past the end
@@ -53,8 +55,8 @@ uint64_t plate_row(const uint8_t *data, size_t len, uint64_t width, uint64_t hei
 uint64_t plate_picture(const uint8_t *data, size_t len, uint64_t width, uint64_t height, uint32_t depth, uint32_t mode,
                        uint32_t *image, size_t room);
 
-/* A field of a PVR version 3 file's header. 0: the refusal's number; 1: width; 2: height; 3: bits a texel, 2 or 4; 4: where the picture's
- * data starts. Fields 1 to 4 of a refused header, and any other field, are 0. */
+/* A field of a PVR version 3 file's header. 0: the refusal's number, the first of 11 to 17 that holds; 1: width; 2: height; 3: bits a texel,
+ * 2 or 4; 4: where the picture's data starts. Fields 1 to 4 of a refused header, and any other field, are 0. */
 uint64_t plate_header(const uint8_t *file, size_t len, uint32_t field);
 
 /* A field of a KTX version 1 file's header. 0: the refusal's number, the first of 31, 32, 33, 34, 35 and 37 that holds; 1: width; 2: height;

@@ -2,9 +2,9 @@
 import struct
 
 
-def pvr(width, height, data, pixel_format=3, metadata=b"", depth=1):
+def pvr(width, height, data, pixel_format=3, metadata=b"", depth=1, surfaces=1, faces=1, levels=1):
     """A PVR file; its format is RGBA at 4bpp unless another is given."""
-    head = struct.pack("<4sIQ9I", b"PVR\3", 0, pixel_format, 0, 0, height, width, depth, 1, 1, 1, len(metadata))
+    head = struct.pack("<4sIQ9I", b"PVR\3", 0, pixel_format, 0, 0, height, width, depth, surfaces, faces, levels, len(metadata))
     return head + metadata + data
 
 

@@ -1,4 +1,4 @@
-"""A second reading of document 01, of the KTX request and of the stored grid, in Python: the two headers, the refusals and their orders, the
+"""A second reading of document 01, of the KTX request, of the stored grid and of the fields' numbers, in Python: the two headers, the refusals and their orders, the
 pictures, and what `plate` writes. Pictures are those of files, with the stored grid, where a call is not told otherwise.
 
 It shares nothing with the crates but those documents. The tools that know what must come out import it.
@@ -16,7 +16,8 @@ ROW_ORDER = (1, 2, 3, 4, 5, 6)
 TEXEL_ORDER = (1, 2, 3, 5, 6)
 KTX_HEADER_ORDER = (31, 32, 33, 34, 35, 37)
 KTX_PICTURE_ORDER = KTX_HEADER_ORDER + (1, 2, 36, 3, 4, 5)
-PVR_PROGRAM_ORDER = (11, 12, 13, 14, 21, 1, 22, 23, 3, 5)
+PVR_HEADER_ORDER = (11, 12, 13, 14, 15, 16, 17)
+PVR_PROGRAM_ORDER = PVR_HEADER_ORDER + (21, 1, 22, 23, 3, 5)
 KTX_PROGRAM_ORDER = (31, 32, 33, 34, 35, 21, 37, 1, 22, 23, 36, 3, 5)
 
 
@@ -194,7 +195,10 @@ def pvr_file(file):
         11: len(file) < 52,
         12: file[:4] != PVR_VERSION,
         13: pixel_format > 3,
-        14: u32(file, 32) != 1 or u32(file, 36) != 1 or u32(file, 40) != 1 or u32(file, 44) == 0,
+        14: u32(file, 32) != 1,
+        15: u32(file, 36) != 1,
+        16: u32(file, 40) != 1,
+        17: u32(file, 44) == 0,
         21: metadata > 4096,
     })
     return faults | picture_faults(len(file) - payload, width, height, two), plate

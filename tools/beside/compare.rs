@@ -11,9 +11,10 @@ mod both;
 mod families;
 mod guarded;
 mod ktx;
+mod pvr;
 mod shape;
 
-use both::{original, plate_convert, plate_header, plate_picture, plate_row, plate_texel};
+use both::{original, plate_convert, plate_picture, plate_row, plate_texel};
 use guarded::Guarded;
 use shape::{Shape, RUSTS, STORED};
 
@@ -53,6 +54,11 @@ fn stays_from(lent: &[u32], from: usize) -> bool {
 // The first number of an order whose condition holds, or 0.
 fn first(order: &[u64], faulty: impl Fn(u64) -> bool) -> u64 {
     order.iter().copied().find(|number| faulty(*number)).unwrap_or(0)
+}
+
+// The four bytes of a file from a place on, as a number; 0 past its end.
+fn field(file: &[u8], at: usize) -> usize {
+    file.get(at..at + 4).map_or(0, |four| u32::from_le_bytes(four.try_into().unwrap()) as usize)
 }
 
 impl Shape {
@@ -161,6 +167,7 @@ pub struct Comparison {
     theirs: Vec<u32>,
     tallies: [Tally; CASES.len()],
     by_original: u64,
+    pvr: pvr::Counts,
     ktx: ktx::Counts,
     smallest: Option<(usize, String)>,
     differences: u64,
@@ -319,37 +326,6 @@ impl Comparison {
             self.differs(file.len(), format!("convert answers {n}, {ours:?}, expected {}, {right:?} for {}", expected.len(), bytes(file)));
         }
     }
-
-    // A damaged file by its header, by the program's function, then its picture if that is small: every answer has a known number.
-    pub fn file(&mut self, file: &[u8]) {
-        let at = self.lay(file);
-        let field = |n: u32| unsafe { plate_header(at, file.len(), n) };
-        let fields: Vec<u64> = (0..6).map(field).collect();
-        let known = if fields[0] == 0 {
-            matches!(fields[3], 2 | 4) && fields[4] >= 52 && fields[4] <= 52 + u32::MAX as u64
-        } else {
-            (11..=14).contains(&fields[0]) && fields[1..5] == [0; 4]
-        };
-        if !known || fields[5] != 0 {
-            self.differs(file.len(), format!("header answers {fields:?} for {}", bytes(file)));
-        }
-        let shape = Shape { width: fields[1] as usize, height: fields[2] as usize, is2bpp: fields[3] == 2 };
-        let data = file.get(fields[4] as usize..).unwrap_or(&[]);
-        let refused = match fields[0] {
-            0 if fields[4] - 52 > 4096 => 21,
-            0 => first(&[1, 22, 23, 3, 5], |number| shape.faulty(number, STORED, data.len(), WORDS)),
-            number => number,
-        };
-        let expected = self.expected_output(refused, shape, data);
-        self.converted(at, file, &expected);
-        if fields[0] != 0 {
-            self.tallies[BY_HEADER].count(fields[0], 0);
-        } else {
-            let small = shape.width.saturating_mul(shape.height) <= 4096;
-            let room = if small { shape.texels() } else { 16 };
-            self.picture(data, shape, room);
-        }
-    }
 }
 
 // What the program writes for a refusal.
@@ -441,6 +417,7 @@ fn main() {
         theirs: Vec::new(),
         tallies: [Tally::default(); CASES.len()],
         by_original: 0,
+        pvr: pvr::Counts::default(),
         ktx: ktx::Counts::default(),
         smallest: None,
         differences: 0,
@@ -458,6 +435,7 @@ fn main() {
     }
     print_row("all", c.counts().into_iter(), start);
     c.print_cases();
+    c.pvr.print();
     c.ktx.print();
     match c.smallest {
         None => println!("no difference"),

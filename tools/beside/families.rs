@@ -165,7 +165,31 @@ fn cut(c: &mut Comparison, file: &mut Vec<u8>) {
     file.truncate(c.draw() as usize % (file.len() + 1));
 }
 
-// Files of a small plate with up to four bytes changed, cut short in places.
+// Places of a header, and what may be set there.
+type Settings = [(usize, &'static [u32])];
+
+// Sets up to two fields of a file.
+fn set_fields(c: &mut Comparison, file: &mut [u8], settings: &Settings) {
+    for _ in 0..c.draw() % 3 {
+        let (at, values) = settings[c.draw() as usize % settings.len()];
+        let value = values[c.draw() as usize % values.len()];
+        file[at..at + 4].copy_from_slice(&value.to_le_bytes());
+    }
+}
+
+const PVR: &Settings = &[
+    (8, &[0, 1, 2, 3, 4, 0x100]),
+    (12, &[1]),
+    (24, &[0, 1, 24, 1000, 1024, 1025, 65536, 65537, !0]),
+    (28, &[0, 1, 24, 1000, 1024, 1025, 65536, 65537, !0]),
+    (32, &[0, 2, 0x100_0001]),
+    (36, &[0, 2, 0x101]),
+    (40, &[0, 6, 0x1_0001]),
+    (44, &[0, 2, 9, 0x100]),
+    (48, &[0, 1, 4096, 4097, !0]),
+];
+
+// Files of a small plate with fields set in one of four, up to four bytes changed, one in eight cut short.
 fn damaged_files(c: &mut Comparison, _: usize) {
     for turn in 0..1_000_000 {
         let drawn = c.draw();
@@ -180,16 +204,19 @@ fn damaged_files(c: &mut Comparison, _: usize) {
         file.extend(std::iter::repeat(0x6d).take(metadata as usize));
         let kind = drawn as usize >> 16;
         file.extend(words(c, kind, s.need(STORED) / 8));
+        if drawn >> 24 & 3 == 0 {
+            set_fields(c, &mut file, PVR);
+        }
         damage(c, &mut file, if turn % 2 == 0 { 52 } else { usize::MAX });
         if c.draw() % 8 == 0 {
             cut(c, &mut file);
         }
-        c.file(&file);
+        c.pvr_file(&file);
     }
 }
 
-// Where a KTX file's header has a field, and what may be set there. The sides stand twice, so that both are large often enough.
-const SET: [(usize, &[u32]); 13] = [
+// The sides stand twice, so that both are large often enough.
+const KTX: &Settings = &[
     (4, &[0xbb30_3220]),
     (12, &[0x0102_0304, 0]),
     (16, &[1, 0x1401]),
@@ -206,12 +233,8 @@ const SET: [(usize, &[u32]); 13] = [
 ];
 
 // Sets up to two fields of a KTX file, and in half the files the size word to the need that is then said.
-fn set_fields(c: &mut Comparison, file: &mut [u8]) {
-    for _ in 0..c.draw() % 3 {
-        let (at, values) = SET[c.draw() as usize % SET.len()];
-        let value = values[c.draw() as usize % values.len()];
-        file[at..at + 4].copy_from_slice(&value.to_le_bytes());
-    }
+fn set_ktx_fields(c: &mut Comparison, file: &mut [u8]) {
+    set_fields(c, file, KTX);
     let (at, need) = (Reading(file).payload() - 4, Reading(file).shape().need(STORED) as u32);
     if at + 4 <= file.len() && c.draw() % 2 == 0 {
         file[at..at + 4].copy_from_slice(&need.to_le_bytes());
@@ -226,7 +249,7 @@ fn damaged_ktx_files(c: &mut Comparison, _: usize) {
         let data = words(c, drawn >> 16, s.need(STORED) / 8);
         let mut file = Wrap::drawn(&mut c.state, s, data.len()).ktx(s, &data);
         if drawn >> 9 & 3 == 0 {
-            set_fields(c, &mut file);
+            set_ktx_fields(c, &mut file);
         }
         damage(c, &mut file, if turn % 2 == 0 { 68 } else { usize::MAX });
         if drawn >> 11 & 3 == 0 {

@@ -4,7 +4,7 @@ use std::collections::BTreeMap;
 
 use crate::both::{draw, plate_convert, plate_ktx, plate_ktx_picture};
 use crate::shape::{Shape, RUSTS, STORED};
-use crate::{before_stays, bytes, fill_old, first, line, stays_from, Comparison, Tally, BEFORE, BY_HEADER, LARGE, OUT, WORDS};
+use crate::{before_stays, bytes, field, fill_old, first, line, stays_from, Comparison, Tally, BEFORE, BY_HEADER, LARGE, OUT, WORDS};
 
 const IDENTIFIER: [u8; 12] = [0xab, 0x4b, 0x54, 0x58, 0x20, 0x31, 0x31, 0xbb, 0x0d, 0x0a, 0x1a, 0x0a];
 
@@ -31,12 +31,12 @@ impl Counts {
     }
 }
 
-// A KTX file, read plainly. A field past its end is 0.
+// A KTX file, read plainly.
 pub struct Reading<'a>(pub &'a [u8]);
 
 impl<'a> Reading<'a> {
     fn field(&self, at: usize) -> usize {
-        self.0.get(at..at + 4).map_or(0, |four| u32::from_le_bytes(four.try_into().unwrap()) as usize)
+        field(self.0, at)
     }
 
     pub fn payload(&self) -> usize {

@@ -20,3 +20,4 @@ pub mod Side
 pub mod Table
 pub mod Told
 pub mod Total
+pub mod WhichField

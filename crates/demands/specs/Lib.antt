@@ -13,3 +13,4 @@ pub mod SamePlate
 pub mod Samples
 pub mod Table
 pub mod Total
+pub mod WhichField

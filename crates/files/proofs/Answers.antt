@@ -4,7 +4,7 @@ use mathlib.Core.Bool.{Bool, true, false, cond, _&&_, false≢true}
 use mathlib.Core.List.{List, [], _∷_}
 use Prim.Native.Nat.{ℕ, _<_}
 use native.Mathlib.Omega.{arith}
-use lib.Dec.{T, eqb, ltb, ltb→lt}
+use lib.Dec.{T, eqb, ltb, ltb→lt, lt→ltb}
 use borrow.Author.Tests.{eqb-true, eqb-false, ne-eqb}
 use Rattle.facts.specs.Checks.{Check, firstOf}
 use Rattle.facts.proofs.Finite.{and-left, and-right}
@@ -59,20 +59,27 @@ module _ (s : Says) where
       by true q r = (eqb-true _ 0 q, ap (plateOr p) r)
       by false q r = absurd (eqb-false _ 0 q (sym (ap numberOf r)))
 
--- whether all numbers of a list are below m
-abbrev pub numbersBelow : (m : ℕ) → List Check → Bool
-numbersBelow m [] = true
-numbersBelow m (c ∷ l) = ltb (c .number) m && numbersBelow m l
+-- whether all numbers of a list pass a test
+abbrev pub numbersPass : (test : ℕ → Bool) → List Check → Bool
+numbersPass test [] = true
+numbersPass test (c ∷ l) = test (c .number) && numbersPass test l
 
--- then so is the one that it says
-pub said-below : (m : ℕ) (l : List Check) → T (numbersBelow m l) → 0 < m → firstOf l < m
+-- then so does the one that it says, or 0
+pub said-passes : (test : ℕ → Bool) (l : List Check) → T (test 0) → T (numbersPass test l) → T (test (firstOf l))
 unfolding firstOf
-said-below m [] e h = h
-said-below m (c ∷ l) e h = by (c .holds) (said-below m l (and-right (ltb (c .number) m) (numbersBelow m l) e) h)
+said-passes test [] z e = z
+said-passes test (c ∷ l) z e = by (c .holds) (said-passes test l z (and-right (test (c .number)) (numbersPass test l) e))
   where
-    by : (t : Bool) → firstOf l < m → cond t (c .number) (firstOf l) < m
-    by true rest = ltb→lt (c .number) m (and-left (ltb (c .number) m) (numbersBelow m l) e)
+    by : (t : Bool) → T (test (firstOf l)) → T (test (cond t (c .number) (firstOf l)))
+    by true rest = and-left (test (c .number)) (numbersPass test l) e
     by false rest = rest
+
+-- so where all are below m, it is
+abbrev pub numbersBelow : (m : ℕ) → List Check → Bool
+numbersBelow m l = numbersPass (λ n. ltb n m) l
+
+pub said-below : (m : ℕ) (l : List Check) → T (numbersBelow m l) → 0 < m → firstOf l < m
+said-below m l e h = ltb→lt (firstOf l) m (said-passes (λ n. ltb n m) l (lt→ltb 0 m h) e)
 
 -- two files that say the same: the same number, and the same plate
 pub record SameSays (s t : Says) : Type 0 where

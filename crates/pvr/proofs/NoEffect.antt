@@ -14,7 +14,7 @@ use Rattle.files.proofs.Answers.{SameSays}
 use Rattle.files.proofs.Fields.{field-kept}
 use Rattle.files.proofs.Starts.{same-start}
 use Rattle.pvr.specs.Header.{version, headerSize, pixelFormat, widthField, heightField, metadataSize, payloadOffset}
-use Rattle.pvr.specs.Header.{shortHeader, notPvr, notOnePlate, headerRefusal, HeaderRead}
+use Rattle.pvr.specs.Header.{shortHeader, notPvr, countChecks, headerRefusal, HeaderRead}
 use Rattle.pvr.specs.Reading.{pvrSays}
 use Rattle.pvr.specs.NoEffect.{hasNoEffect, SameHeader}
 use Rattle.facts.proofs.Order.{holds-here}
@@ -44,9 +44,8 @@ module _ {f g : List ℕ} (s : SameHeader f g) where
   pub same-payload : payloadOffset f ≡ payloadOffset g
   same-payload = ap (λ (n : ℕ). headerSize + n) (field 48 (omega arith) tt)
 
-  same-plates : notOnePlate f ≡ notOnePlate g
-  unfolding notOnePlate
-  same-plates =
+  same-counts : countChecks f ≡ countChecks g
+  same-counts =
       rw (
         field 32 (omega arith) tt,
         field 36 (omega arith) tt,
@@ -67,7 +66,7 @@ module _ {f g : List ℕ} (s : SameHeader f g) where
     where
       by : (t : Bool) → shortHeader f ≡ t → headerRefusal f ≡ headerRefusal g
       by true e = sym (holds-here _ 11 _ e) ∙ holds-here _ 11 _ (sym (s .short) ∙ e)
-      by false e = rw (s .short, same-version e, same-format, same-plates)
+      by false e = rw (s .short, same-version e, same-format, same-counts)
 
   -- so they say the same to the program
   pub same-says : SameSays (pvrSays f) (pvrSays g)

@@ -9,20 +9,26 @@ use Rattle.files.proofs.Fields.{same-depth}
 use Rattle.pvr.specs.declared.Header.{Header}
 use Rattle.pvr.specs.declared.Header.the-variants.{Plate, Refused}
 use Rattle.pvr.specs.declared.HeaderRefusal.{HeaderRefusal}
-use Rattle.pvr.specs.declared.HeaderRefusal.the-variants.{ShortHeader, NotPvr, UnknownFormat, NotOnePlate}
+use Rattle.pvr.specs.declared.HeaderRefusal.the-variants.{ShortHeader, NotPvr, UnknownFormat, DepthNotOne, SurfacesNotOne, FacesNotOne, NoLevel}
 use Rattle.pvr.specs.Header.{numberOf, headerNumber, headerWidth, headerHeight, headerBits, headerPayload, HeaderRead}
 use Rattle.pvr.proofs.Answers.{number-above}
 
 -- a refusal's number tells which it is
 ofNumber : ℕ → HeaderRefusal
-ofNumber n = cond (eqb n 11) ShortHeader (cond (eqb n 12) NotPvr (cond (eqb n 13) UnknownFormat NotOnePlate))
+ofNumber n =
+    cond (eqb n 11) ShortHeader
+    (cond (eqb n 12) NotPvr
+    (cond (eqb n 13) UnknownFormat (cond (eqb n 14) DepthNotOne (cond (eqb n 15) SurfacesNotOne (cond (eqb n 16) FacesNotOne NoLevel)))))
 
 back : (f : HeaderRefusal) → ofNumber (numberOf f) ≡ f
 unfolding ofNumber
 back ShortHeader = refl
 back NotPvr = refl
 back UnknownFormat = refl
-back NotOnePlate = refl
+back DepthNotOne = refl
+back SurfacesNotOne = refl
+back FacesNotOne = refl
+back NoLevel = refl
 
 pub same-refusal : (f g : HeaderRefusal) → numberOf f ≡ numberOf g → f ≡ g
 same-refusal f g e = sym (back f) ∙ ap ofNumber e ∙ back g

@@ -1,7 +1,8 @@
--- The PVR version 3 header, as document 01 says it ("The program and its two published layouts"). Assumes nothing: these are definitions.
+-- The PVR version 3 header, as document 01 says it ("The program and its two published layouts"), with the numbers that document 02 gives to the
+-- fields (W4). Assumes nothing: these are definitions.
 -- `file` is the list of the file's bytes; a byte past its end counts as 0.
 use mathlib.Core.Path.{_≡_}
-use mathlib.Core.Bool.{Bool, not, _||_}
+use mathlib.Core.Bool.{Bool, not}
 use mathlib.Core.List.{List, [], _∷_}
 use Prim.Native.Nat.{ℕ, _+_}
 use lib.Dec.{eqb, ltb}
@@ -11,7 +12,7 @@ use Rattle.files.specs.Fields.{u32At, u64At, startsWith, bitsOf, unlessRefused}
 use Rattle.pvr.specs.declared.Header.{Header}
 use Rattle.pvr.specs.declared.Header.the-variants.{Plate, Refused}
 use Rattle.pvr.specs.declared.HeaderRefusal.{HeaderRefusal}
-use Rattle.pvr.specs.declared.HeaderRefusal.the-variants.{ShortHeader, NotPvr, UnknownFormat, NotOnePlate}
+use Rattle.pvr.specs.declared.HeaderRefusal.the-variants.{ShortHeader, NotPvr, UnknownFormat, DepthNotOne, SurfacesNotOne, FacesNotOne, NoLevel}
 
 -- The header: 52 bytes.
 abbrev pub headerSize : ℕ
@@ -73,10 +74,30 @@ notPvr file = not (startsWith file version)
 abbrev pub unknownFormat : List ℕ → Bool
 unknownFormat file = ltb 3 (pixelFormat file)
 
--- Depth, surfaces or faces is not 1, or levels is 0.
-unfoldable pub notOnePlate : List ℕ → Bool
-notOnePlate file =
-    not (eqb (depthField file) 1) || not (eqb (surfacesField file) 1) || not (eqb (facesField file) 1) || eqb (levelsField file) 0
+-- The depth is not 1.
+abbrev pub depthNotOne : List ℕ → Bool
+depthNotOne file = not (eqb (depthField file) 1)
+
+-- The surfaces are not 1.
+abbrev pub surfacesNotOne : List ℕ → Bool
+surfacesNotOne file = not (eqb (surfacesField file) 1)
+
+-- The faces are not 1.
+abbrev pub facesNotOne : List ℕ → Bool
+facesNotOne file = not (eqb (facesField file) 1)
+
+-- The levels are 0.
+abbrev pub noLevel : List ℕ → Bool
+noLevel file = eqb (levelsField file) 0
+
+-- The refusals of the four fields that count what a file holds, in their order (document 02, W4).
+abbrev pub countChecks : List ℕ → List Check
+countChecks file =
+    check (depthNotOne file) 14
+    ∷ check (surfacesNotOne file) 15
+    ∷ check (facesNotOne file) 16
+    ∷ check (noLevel file) 17
+    ∷ []
 
 -- The refusals of the header, in their order.
 abbrev pub headerChecks : List ℕ → List Check
@@ -84,19 +105,21 @@ headerChecks file =
     check (shortHeader file) 11
     ∷ check (notPvr file) 12
     ∷ check (unknownFormat file) 13
-    ∷ check (notOnePlate file) 14
-    ∷ []
+    ∷ countChecks file
 
 -- The number that reading a header says.
 abbrev pub headerRefusal : List ℕ → ℕ
 headerRefusal file = firstOf (headerChecks file)
 
--- Document 01's number of a refusal.
+-- The documents' number of a refusal.
 abbrev pub numberOf : HeaderRefusal → ℕ
 numberOf ShortHeader = 11
 numberOf NotPvr = 12
 numberOf UnknownFormat = 13
-numberOf NotOnePlate = 14
+numberOf DepthNotOne = 14
+numberOf SurfacesNotOne = 15
+numberOf FacesNotOne = 16
+numberOf NoLevel = 17
 
 -- The number that an answer says: 0 for none.
 abbrev pub headerNumber : Header → ℕ
@@ -123,10 +146,14 @@ abbrev pub headerPayload : Header → ℕ
 headerPayload (Plate width height two payload) = payload
 headerPayload (Refused f) = 0
 
--- Reading a header: its number, and where that is 0 the sizes, the bits a texel and the payload offset.
-pub record HeaderRead (file : List ℕ) (r : Header) : Type 0 where
-  pub number : headerNumber r ≡ headerRefusal file
-  pub width : headerWidth r ≡ unlessRefused (headerRefusal file) (widthField file)
-  pub height : headerHeight r ≡ unlessRefused (headerRefusal file) (heightField file)
-  pub bits : headerBits r ≡ unlessRefused (headerRefusal file) (bitsOf (isTwo file))
-  pub payload : headerPayload r ≡ unlessRefused (headerRefusal file) (payloadOffset file)
+-- What is answered of a header with the number n: that number, and where it is 0 the sizes, the bits a texel and the payload offset.
+pub record HeaderAnswered (n : ℕ) (file : List ℕ) (r : Header) : Type 0 where
+  pub number : headerNumber r ≡ n
+  pub width : headerWidth r ≡ unlessRefused n (widthField file)
+  pub height : headerHeight r ≡ unlessRefused n (heightField file)
+  pub bits : headerBits r ≡ unlessRefused n (bitsOf (isTwo file))
+  pub payload : headerPayload r ≡ unlessRefused n (payloadOffset file)
+
+-- Reading a header: the number is that of its first refusal.
+abbrev pub HeaderRead : List ℕ → Header → Type 0
+HeaderRead file r = HeaderAnswered (headerRefusal file) file r

@@ -1,3 +1,5 @@
 pub mod Header
+pub mod Inner
 pub mod NoEffect
+pub mod OneNumber
 pub mod Reading

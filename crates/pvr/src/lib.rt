@@ -1,7 +1,8 @@
 // The header of a PVR version 3 file.
 ghost use mathlib.Core.Path.{_≡_};
 ghost use Rattle.files.specs.Reading.{readingOf};
-ghost use Rattle.pvr.specs.Header.{notOnePlate, numberOf, HeaderRead};
+ghost use Rattle.pvr.specs.Header.{numberOf, HeaderRead};
+ghost use Rattle.pvr.specs.Inner.{CountsSay};
 ghost use Rattle.pvr.specs.Reading.{pvrSays};
 use files::Reading;
 use files::Size;
@@ -10,12 +11,15 @@ use files::Stored;
 // The bytes that a header begins with.
 const VERSION: [u8; 4] = [0x50, 0x56, 0x52, 0x03];
 
-// Why a header is refused, in document 01's words.
+// Why a header is refused, in the words of documents 01 and 02.
 pub enum HeaderRefusal {
     ShortHeader,
     NotPvr,
     UnknownFormat,
-    NotOnePlate,
+    DepthNotOne,
+    SurfacesNotOne,
+    FacesNotOne,
+    NoLevel,
 }
 
 // What reading a header answers.
@@ -29,7 +33,13 @@ pub enum Header {
     Refused(HeaderRefusal),
 }
 
-// Document 01's number of a refusal.
+// What the four fields say by themselves that count what a file holds.
+enum Counts {
+    OnePlate,
+    Refused(HeaderRefusal),
+}
+
+// The documents' number of a refusal.
 pub fn header_refusal_number(f: HeaderRefusal) -> u64
     ensures { λ r. ⌜ r ≡ numberOf f ⌝ }
 {
@@ -37,24 +47,30 @@ pub fn header_refusal_number(f: HeaderRefusal) -> u64
         HeaderRefusal::ShortHeader => 11,
         HeaderRefusal::NotPvr => 12,
         HeaderRefusal::UnknownFormat => 13,
-        HeaderRefusal::NotOnePlate => 14,
+        HeaderRefusal::DepthNotOne => 14,
+        HeaderRefusal::SurfacesNotOne => 15,
+        HeaderRefusal::FacesNotOne => 16,
+        HeaderRefusal::NoLevel => 17,
     }
 }
 
-// Whether a field says that the file holds something else than one plate: the depth at 32, surfaces at 36, faces at 40, levels at 44.
-fn is_not_one_plate(file: &[u8]) -> bool
-    ensures { λ r. ⌜ r ≡ notOnePlate (now (file .entry)) ⌝ }
+// The first count that is refused: the depth at 32, surfaces at 36, faces at 40, levels at 44.
+fn check_counts(file: &[u8]) -> Counts
+    ensures { λ r. ⌜ CountsSay (now (file .entry)) r ⌝ }
 {
     if files::u32_at(file, 32) != 1 {
-        return true;
+        return Counts::Refused(HeaderRefusal::DepthNotOne);
     }
     if files::u32_at(file, 36) != 1 {
-        return true;
+        return Counts::Refused(HeaderRefusal::SurfacesNotOne);
     }
     if files::u32_at(file, 40) != 1 {
-        return true;
+        return Counts::Refused(HeaderRefusal::FacesNotOne);
     }
-    files::u32_at(file, 44) == 0
+    if files::u32_at(file, 44) == 0 {
+        return Counts::Refused(HeaderRefusal::NoLevel);
+    }
+    Counts::OnePlate
 }
 
 // The sizes, the depth and the payload offset of the plate that a file holds, or the first refusal whose condition holds.
@@ -71,8 +87,9 @@ pub fn read_header(file: &[u8]) -> Header
     if format > 3 {
         return Header::Refused(HeaderRefusal::UnknownFormat);
     }
-    if is_not_one_plate(file) {
-        return Header::Refused(HeaderRefusal::NotOnePlate);
+    let counts = check_counts(file);
+    if let Counts::Refused(f) = counts {
+        return Header::Refused(f);
     }
     let width = files::u32_at(file, 28) as usize;
     let height = files::u32_at(file, 24) as usize;

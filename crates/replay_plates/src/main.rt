@@ -1,4 +1,4 @@
-// Prints what `plate` writes for some two hundred files, each a plain one with something changed. What it must print, in the file `stdout`,
+// Prints what `plate` writes for some hundreds of files, each a plain one with something changed. What it must print, in the file `stdout`,
 // was written by tools/replay_plates. It is one module, since what a function prints is nothing that it could promise.
 mod tables;
 
@@ -6,7 +6,7 @@ ghost use lib.ListN.{length};
 ghost use Rattle.convert.specs.Output.{Room};
 
 // What a row says, one number or some as one: where a file is cut, a place and its four bytes, how much metadata there is and where the file ends,
-// a format and two sides, these and where the file ends, or two refusals by their places in the order.
+// a format and two sides, these and where the file ends, two refusals by their places in the order, or a bit for each of six.
 enum Row {
     Cut,
     Place,
@@ -14,6 +14,7 @@ enum Row {
     Size,
     Tiny,
     Faults,
+    Fields,
 }
 
 fn main() {
@@ -27,7 +28,8 @@ fn print_files(bytes: &mut [u8]) {
     print_rows(Row::End, &tables::ENDS, bytes);
     print_rows(Row::Size, &tables::SIZES, bytes);
     print_rows(Row::Tiny, &tables::TINY, bytes);
-    print_run(Row::Faults, 100, bytes);
+    print_run(Row::Faults, 169, bytes);
+    print_run(Row::Fields, 64, bytes);
 }
 
 // The rows below n, one after another.
@@ -52,6 +54,7 @@ fn print_row(kind: Row, row: u64, bytes: &mut [u8]) {
         Row::Size => print_size(row, 40000, bytes),
         Row::Tiny => print_tiny(row, bytes),
         Row::Faults => print_faults(row, bytes),
+        Row::Fields => print_fields(row, bytes),
     }
 }
 
@@ -111,10 +114,10 @@ fn set_size(format: u32, width: u32, height: u32, bytes: &mut [u8]) {
     samples::set_u32(bytes, 48, 4096);
 }
 
-// Every two refusals at once: the row's two digits are their places in the order. Of each two, one row of the two is taken.
+// Every two refusals at once: the row's two digits to base thirteen are their places in the order. Of each two, one row of the two is taken.
 fn print_faults(row: u64, bytes: &mut [u8]) {
-    let i = (row / 10 % 10) as usize;
-    let j = (row % 10) as usize;
+    let i = (row / 13 % 13) as usize;
+    let j = (row % 13) as usize;
     let t = tables::ORDER;
     if i <= j {
         print_two(bytes, t[i], t[j]);
@@ -131,6 +134,27 @@ fn print_two(bytes: &mut [u8], first: u64, second: u64) {
     print_answer(bytes, facts::least(end_of(first), end_of(second)));
 }
 
+// Depth, surfaces, faces and levels, each wrong or not, with the format before them and a side after: the row has a bit for each.
+fn print_fields(row: u64, bytes: &mut [u8]) {
+    samples::lay_file(&tables::PLAIN, bytes);
+    io::write_all(1, b"at once");
+    bring_if(row % 2, bytes, 13);
+    bring_if(row / 2 % 2, bytes, 14);
+    bring_if(row / 4 % 2, bytes, 15);
+    bring_if(row / 8 % 2, bytes, 16);
+    bring_if(row / 16 % 2, bytes, 17);
+    bring_if(row / 32 % 2, bytes, 1);
+    print_answer(bytes, 40000);
+}
+
+// Brings a fault in and names it, where its bit is 1.
+fn bring_if(bit: u64, bytes: &mut [u8], fault: u64) {
+    if bit == 1 {
+        bring(bytes, fault);
+        print_name(b"", fault);
+    }
+}
+
 fn set_sides(bytes: &mut [u8], width: u32, height: u32) {
     samples::set_u32(bytes, 24, height);
     samples::set_u32(bytes, 28, width);
@@ -142,6 +166,9 @@ fn bring(bytes: &mut [u8], fault: u64) {
         12 => samples::set_u32(bytes, 0, 0x03525600),
         13 => samples::set_u32(bytes, 8, 4),
         14 => samples::set_u32(bytes, 32, 2),
+        15 => samples::set_u32(bytes, 36, 2),
+        16 => samples::set_u32(bytes, 40, 6),
+        17 => samples::set_u32(bytes, 44, 0),
         21 => samples::set_u32(bytes, 48, 4097),
         1 => samples::set_u32(bytes, 24, 0),
         22 => samples::set_u32(bytes, 28, 1025),

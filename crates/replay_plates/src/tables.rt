@@ -5,7 +5,7 @@ pub const PLAIN: [u32; 13] = [0x03525650, 0, 3, 0, 0, 0, 8, 8, 1, 1, 1, 1, 0];
 
 // Places of the header, before a row's mark, and the four bytes put there, behind it. A row is one number: a function that lends many small
 // arrays takes long to prove.
-pub const FIELDS: [u64; 60] = [
+pub const FIELDS: [u64; 63] = [
     // the version: PVR's, each byte changed, and the bytes turned
     0x00_03525650,
     0x00_03525651,
@@ -58,13 +58,16 @@ pub const FIELDS: [u64; 60] = [
     0x20_01000001,
     0x24_00000000,
     0x24_00000002,
+    0x24_00000101,
     0x28_00000000,
     0x28_00000002,
     0x28_00000006,
-    // the levels have no effect
+    0x28_00010001,
+    // the levels: none, and more than one
     0x2c_00000000,
     0x2c_00000002,
     0x2c_00000004,
+    0x2c_01000000,
     0x2c_ffffffff,
     // the metadata size: 0, 1, 99, 100, 4,095, 4,096, 4,097, 65,536 and more
     0x30_00000000,
@@ -154,4 +157,4 @@ pub const TINY: [u64; 26] = [
 ];
 
 // The refusals in their order.
-pub const ORDER: [u64; 10] = [11, 12, 13, 14, 21, 1, 22, 23, 3, 5];
+pub const ORDER: [u64; 13] = [11, 12, 13, 14, 15, 16, 17, 21, 1, 22, 23, 3, 5];

@@ -1,14 +1,13 @@
 -- `pvr::read_header` meets its contract: the checks are made in their order, and past the last the fields are those of the definition. Assumes nothing.
 use mathlib.Core.Bool.{not}
-use mathlib.Core.Path.{_≡_, sym, ap, _∙_}
+use mathlib.Core.Path.{sym, ap, _∙_}
 use Prim.Native.Nat.{ℕ, _+_}
-use denote.Ref.{now}
 use lib.Dec.{ltb}
 use borrow.Author.Needs.{needs}
 use borrow.Author.Tests.{lt-ltb, le-ltb}
-use Rattle.pvr.specs.Header.{headerSize, headerRefusal}
-use Rattle.pvr.proofs.Answers.{by-plate, by-refusal}
-use Rattle.facts.proofs.Order.{holds-here, holds-later, none-left}
+use Rattle.pvr.specs.Header.{headerSize}
+use Rattle.pvr.proofs.Answers.{by-refusal, by-counts, past-all, by-plate}
+use Rattle.facts.proofs.Order.{holds-here, holds-later}
 use Rattle.pvr.proofs.read_header.Statement.{statement}
 use Rattle.pvr.proofs.read_header.Tie as tie
 
@@ -39,16 +38,26 @@ returns-3 c =
     (holds-later _ _ _ (ap not (sym (c .before .before .before .starts-with .ensures)) ∙ c .before .before .if2 .left)
     (holds-here _ _ _ (lt-ltb 3 _ (rw (c .before .u64-at .ensures) at (c .if3 .taken))))))
 
-is-not-one-plate-requires : tie.Need-is-not-one-plate-requires
-is-not-one-plate-requires c κs = search needs
+check-counts-requires : tie.Need-check-counts-requires
+check-counts-requires c κs = search needs
+
+enum-known-counts : tie.Need-enum-known-counts
+enum-known-counts c = search needs
 
 returns-4 : tie.Need-returns-4
 returns-4 c =
-    by-refusal
-    (holds-later _ _ _ (le-ltb _ _ (c .before .before .before .before .before .before .before .if1 .left))
-    (holds-later _ _ _ (ap not (sym (c .before .before .before .before .before .starts-with .ensures)) ∙ c .before .before .before .before .if2 .left)
-    (holds-later _ _ _ (le-ltb 3 _ (rw (c .before .before .before .u64-at .ensures) at (c .before .before .if3 .left)))
-    (holds-here _ _ _ (sym (c .before .is-not-one-plate .ensures) ∙ c .if4 .taken)))))
+    let counts = c .before .before .before in
+    let format = counts .before in
+    let start = format .before .before in
+    by-counts _
+    (le-ltb _ _ (start .before .before .before .if1 .left))
+    (ap not (sym (start .before .starts-with .ensures)) ∙ start .if2 .left)
+    (le-ltb 3 _ (rw (format .before .u64-at .ensures) at (format .if3 .left)))
+    (counts .check-counts .ensures)
+    (c .before .counts .given .1)
+
+enum-told : tie.Need-enum-told
+enum-told c = search needs
 
 u32-at-requires : tie.Need-u32-at-requires
 u32-at-requires c κs = search needs
@@ -73,19 +82,22 @@ add-payload c = search needs
 
 returns-5 : tie.Need-returns-5
 returns-5 c =
-    let k = c .before .before .before in
-    let none : 0 ≡ headerRefusal (now (k .before .before .before .before .before .before .before .before .before .args .file)) =
-    holds-later _ _ _ (le-ltb _ _ (k .before .before .before .before .before .before .before .if1 .left))
-    (holds-later _ _ _ (ap not (sym (k .before .before .before .before .before .starts-with .ensures)) ∙ k .before .before .before .before .if2 .left)
-    (holds-later _ _ _ (le-ltb 3 _ (rw (k .before .before .before .u64-at .ensures) at (k .before .before .if3 .left)))
-    (holds-later _ _ _ (sym (k .before .is-not-one-plate .ensures) ∙ k .if4 .left)
-    none-left))) in
+    let told = c .before .before .before in
+    let counts = told .before .before in
+    let format = counts .before in
+    let start = format .before .before in
     by-plate
     (record {
-      accepted = sym none;
+      accepted =
+          past-all _
+          (le-ltb _ _ (start .before .before .before .if1 .left))
+          (ap not (sym (start .before .starts-with .ensures)) ∙ start .if2 .left)
+          (le-ltb 3 _ (rw (format .before .u64-at .ensures) at (format .if3 .left)))
+          (counts .check-counts .ensures)
+          (told .enum-told .given .1);
       width = c .before .before .u32-at .ensures .0;
       height = c .before .u32-at2 .ensures .0;
-      depth = ap (λ (n : ℕ). ltb n 2) (k .before .before .before .u64-at .ensures);
+      depth = ap (λ (n : ℕ). ltb n 2) (format .before .u64-at .ensures);
       payload = ap (λ (n : ℕ). headerSize + n) (c .u32-at3 .ensures .0);
     })
 
@@ -99,8 +111,10 @@ read-header-spec =
     returns-2
     u64-at-requires
     returns-3
-    is-not-one-plate-requires
+    check-counts-requires
+    enum-known-counts
     returns-4
+    enum-told
     u32-at-requires
     cast-width
     u32-at-requires-2

@@ -1,0 +1,54 @@
+-- A PVR file is refused by the number of its field (document 02, W4): everything refused as 14 before is still refused, and nothing else is. Over
+-- what reads such a file. Assumes nothing: these are definitions.
+use mathlib.Core.Path.{_≡_}
+use mathlib.Core.Bool.{cond}
+use mathlib.Core.List.{List, _++_}
+use mathlib.Core.Logic.{_↔_}
+use Prim.Native.Nat.{ℕ, _<_}
+use lib.ListN.{length}
+use Rattle.facts.specs.Checks.{Check, firstOf}
+use Rattle.files.specs.Fields.{bitsOf}
+use Rattle.files.specs.Reading.{Says, readingOf}
+use Rattle.pvr.specs.Header.{widthField, heightField, isTwo, payloadOffset, headerNumber, HeaderAnswered, HeaderRead}
+use Rattle.pvr.specs.OneNumber.{oneNumberChecks, oneNumberRefusal, SaysWhich}
+use Rattle.pvr.specs.Reading.{pvrPlate, pvrSays}
+use Rattle.pvr.specs.declared.Header.{Header}
+use Rattle.ktx.specs.Reading.{ktxSays}
+use Rattle.capi.specs.Plate.{plateField, fieldOf, headerField}
+use Rattle.convert.specs.Output.{isKtx, storedIn, plateOf, levelData, ownChecks, programRefusal, written, output, Answered, Converted}
+
+-- A field of the header that C was told before.
+abbrev pub fieldBefore : List ℕ → ℕ → ℕ
+fieldBefore file k =
+    fieldOf (oneNumberRefusal file) (plateField (widthField file) (heightField file) (bitsOf (isTwo file)) (payloadOffset file) k) k
+
+-- What a PVR file said to the program before: its plate is that of today. A KTX file says what it said.
+abbrev pub pvrSaysBefore : List ℕ → Says
+pvrSaysBefore file = record { refusals = oneNumberChecks file; plate = pvrPlate file }
+
+abbrev pub saysBefore : List ℕ → Says
+saysBefore file = cond (isKtx file) (ktxSays file) (pvrSaysBefore file)
+
+-- The program's refusals before, in their order: the header's, and its own, which are those of today.
+abbrev pub programChecksBefore : List ℕ → List Check
+programChecksBefore file = saysBefore file .refusals ++ ownChecks (storedIn file) (length (levelData file))
+
+-- The number that it said.
+abbrev pub programRefusalBefore : List ℕ → ℕ
+programRefusalBefore file = firstOf (programChecksBefore file)
+
+-- Each number that is said of a file beside the one before; and where that was not 14, the answer is what it was.
+pub record WhichField (file : List ℕ) : Type 0 where
+  -- The header's reader.
+  pub header : (r : Header) → HeaderRead file r → SaysWhich (headerNumber r) (oneNumberRefusal file)
+  pub header-same : (oneNumberRefusal file ≡ 14 → ⊥) → (r : Header) → HeaderRead file r ↔ HeaderAnswered (oneNumberRefusal file) file r
+  -- What it tells the program.
+  pub reading-same : (oneNumberRefusal file ≡ 14 → ⊥) → readingOf (pvrSays file) ≡ readingOf (pvrSaysBefore file)
+  -- C's fields of the header: field 0 is the number, and every other is what it was.
+  pub c-number : SaysWhich (headerField file 0) (fieldBefore file 0)
+  pub c-field : (k : ℕ) → 0 < k → headerField file k ≡ fieldBefore file k
+  -- The program: its number, what it writes, and what `convert` lays into lent bytes and words.
+  pub program : SaysWhich (programRefusal file) (programRefusalBefore file)
+  pub written-same : (programRefusalBefore file ≡ 14 → ⊥) → output file ≡ written (programRefusalBefore file) (plateOf file) (levelData file)
+  pub laid-same : (programRefusalBefore file ≡ 14 → ⊥) → (image image' out out' : List ℕ) (r : ℕ)
+      → Converted file image image' out out' r ↔ Answered (programRefusalBefore file) (plateOf file) (levelData file) image image' out out' r
