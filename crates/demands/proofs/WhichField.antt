@@ -1,6 +1,6 @@
 -- A PVR file is refused by the number of its field, and every other answer is what it was. Assumes nothing.
 use mathlib.Core.Path.{_≡_, sym, ap, subst, _∙_}
-use mathlib.Core.Bool.{Bool, true, false, cond, not, _&&_}
+use mathlib.Core.Bool.{Bool, true, false, cond, not, _&&_, false≢true}
 use mathlib.Core.List.{List}
 use mathlib.Core.Logic.{_↔_}
 use Prim.Native.Nat.{ℕ, _<_}
@@ -72,6 +72,15 @@ which-field file =
       c-field = λ k h. rw (ne-eqb k 0 (λ e. omega arith), none-same head);
       program = said;
       written-same = λ no. ap (λ (n : ℕ). written n (plateOf file) (levelData file)) (said .other no);
-      laid-same = λ no image image' out out' r.
-          both-ways (λ n. Answered n (plateOf file) (levelData file) image image' out out' r) (said .other no);
+      laid-same = λ no image image' out out' r. laid (said .other no) image image' out out' r;
+      in-room-same = λ no image image' out out' r room.
+          let same = laid (said .other no) image image' out out' r in
+          (
+            λ a. same .0 (a .done room),
+            λ b. record { done = λ _. same .1 b; too-little = λ e. absurd (false≢true (sym e ∙ room)) },
+          );
     }
+  where
+    laid : {n m : ℕ} → n ≡ m → (image image' out out' : List ℕ) (r : ℕ)
+        → Answered n (plateOf file) (levelData file) image image' out out' r ↔ Answered m (plateOf file) (levelData file) image image' out out' r
+    laid e image image' out out' r = both-ways (λ n. Answered n (plateOf file) (levelData file) image image' out out' r) e

@@ -1,7 +1,7 @@
 -- A PVR file is refused by the number of its field (document 02, W4): everything refused as 14 before is still refused, and nothing else is. Over
 -- what reads such a file. Assumes nothing: these are definitions.
 use mathlib.Core.Path.{_≡_}
-use mathlib.Core.Bool.{cond}
+use mathlib.Core.Bool.{true, cond}
 use mathlib.Core.List.{List, _++_}
 use mathlib.Core.Logic.{_↔_}
 use Prim.Native.Nat.{ℕ, _<_}
@@ -15,7 +15,8 @@ use Rattle.pvr.specs.Reading.{pvrPlate, pvrSays}
 use Rattle.pvr.specs.declared.Header.{Header}
 use Rattle.ktx.specs.Reading.{ktxSays}
 use Rattle.capi.specs.Plate.{plateField, fieldOf, headerField}
-use Rattle.convert.specs.Output.{isKtx, storedIn, plateOf, levelData, ownChecks, programRefusal, written, output, Answered, Converted}
+use Rattle.convert.specs.Output.{isKtx, storedIn, plateOf, levelData, ownChecks, programRefusal, written, output}
+use Rattle.convert.specs.Output.{Answered, Converted, roomy, ConvertedInRoom}
 
 -- A field of the header that C was told before.
 abbrev pub fieldBefore : List ℕ → ℕ → ℕ
@@ -42,13 +43,15 @@ pub record WhichField (file : List ℕ) : Type 0 where
   -- The header's reader.
   pub header : (r : Header) → HeaderRead file r → SaysWhich (headerNumber r) (oneNumberRefusal file)
   pub header-same : (oneNumberRefusal file ≡ 14 → ⊥) → (r : Header) → HeaderRead file r ↔ HeaderAnswered (oneNumberRefusal file) file r
-  -- What it tells the program.
+  -- What its reader tells the program.
   pub reading-same : (oneNumberRefusal file ≡ 14 → ⊥) → readingOf (pvrSays file) ≡ readingOf (pvrSaysBefore file)
   -- C's fields of the header: field 0 is the number, and every other is what it was.
   pub c-number : SaysWhich (headerField file 0) (fieldBefore file 0)
   pub c-field : (k : ℕ) → 0 < k → headerField file k ≡ fieldBefore file k
-  -- The program: its number, what it writes, and what `convert` lays into lent bytes and words.
+  -- The program: its number, what it writes, and what `convert` lays into lent bytes and words, and `plate_convert` where there is room.
   pub program : SaysWhich (programRefusal file) (programRefusalBefore file)
   pub written-same : (programRefusalBefore file ≡ 14 → ⊥) → output file ≡ written (programRefusalBefore file) (plateOf file) (levelData file)
   pub laid-same : (programRefusalBefore file ≡ 14 → ⊥) → (image image' out out' : List ℕ) (r : ℕ)
       → Converted file image image' out out' r ↔ Answered (programRefusalBefore file) (plateOf file) (levelData file) image image' out out' r
+  pub in-room-same : (programRefusalBefore file ≡ 14 → ⊥) → (image image' out out' : List ℕ) (r : ℕ) → roomy image out ≡ true
+      → ConvertedInRoom file image image' out out' r ↔ Answered (programRefusalBefore file) (plateOf file) (levelData file) image image' out out' r
