@@ -3,7 +3,7 @@ use mathlib.Core.Path.{_≡_, sym, ap, subst, _∙_}
 use mathlib.Core.Bool.{Bool, true, false, cond, not, _&&_, false≢true}
 use mathlib.Core.List.{List}
 use mathlib.Core.Logic.{_↔_}
-use Prim.Native.Nat.{ℕ, _<_}
+use Prim.Native.Nat.{ℕ}
 use native.Mathlib.Omega.{arith}
 use lib.Dec.{T, eqb, leb}
 use lib.ListN.{length}
@@ -12,7 +12,7 @@ use Rattle.facts.specs.Checks.{Check, firstOf, numbered}
 use Rattle.facts.proofs.Checks.{first-append}
 use Rattle.files.specs.declared.Reading.the-variants.{Plate, Refused}
 use Rattle.files.proofs.Answers.{numbersPass, said-passes}
-use Rattle.pvr.specs.Header.{headerRefusal, headerNumber, HeaderAnswered}
+use Rattle.pvr.specs.Header.{HeaderAnswered}
 use Rattle.pvr.specs.OneNumber.{oneNumberRefusal, OfField, SaysWhich}
 use Rattle.pvr.specs.Reading.{pvrPlate, pvrSays}
 use Rattle.pvr.proofs.OneNumber.{same, header-which, none-same, or-else}
@@ -29,12 +29,12 @@ says-no-field : (l : List Check) → T (numbersPass noField l) → OfField (firs
 unfolding noField
 says-no-field l t h = rw (le-leb 14 (firstOf l) (h .0), le-leb (firstOf l) 17 (h .1)) at (said-passes noField l tt t)
 
--- what follows a header says what it said, on its own
+-- and so do the program's own checks
 own-says : (file : List ℕ) → OfField (firstOf (ownChecks (storedIn file) (length (levelData file)))) → ⊥
 unfolding noField
 own-says file = says-no-field (ownChecks (storedIn file) (length (levelData file))) tt
 
--- the header of either kind, by the lists of today and of before
+-- the header of either kind, today and before
 headers : (file : List ℕ) → SaysWhich (firstOf (saysOf file .refusals)) (firstOf (saysBefore file .refusals))
 unfolding saysOf noField
 headers file = by (isKtx file)
@@ -74,8 +74,7 @@ which-field file =
       written-same = λ no. ap (λ (n : ℕ). written n (plateOf file) (levelData file)) (said .other no);
       laid-same = λ no image image' out out' r. laid (said .other no) image image' out out' r;
       in-room-same = λ no image image' out out' r room.
-          let same = laid (said .other no) image image' out out' r in
-          (
+          let same = laid (said .other no) image image' out out' r in (
             λ a. same .0 (a .done room),
             λ b. record { done = λ _. same .1 b; too-little = λ e. absurd (false≢true (sym e ∙ room)) },
           );

@@ -14,7 +14,7 @@ use Rattle.pvr.specs.OneNumber.{notOnePlate, oneNumberRefusal, OfField, 
 pub same : {n : ℕ} → (OfField n → ⊥) → SaysWhich n n
 same none = record { field = (λ h. absurd (none h), λ e. absurd (none (omega arith, omega arith))); other = λ _. refl }
 
-pub was-14 : {n : ℕ} → 14 ≤ n → n ≤ 17 → SaysWhich n 14
+was-14 : {n : ℕ} → 14 ≤ n → n ≤ 17 → SaysWhich n 14
 was-14 low high = record { field = (λ _. refl, λ _. (low, high)); other = λ d. absurd (d refl) }
 
 -- the last four checks, and the one that they were
@@ -28,7 +28,8 @@ counts false false false true = was-14 (omega arith) (omega arith)
 counts false false false false = same (λ h. omega (arith, h .0))
 
 -- a check of another number before both
-first : (b : Bool) (n : ℕ) (k m : List Check) → (OfField n → ⊥) → SaysWhich (firstOf k) (firstOf m) → SaysWhich (firstOf (check b n ∷ k)) (firstOf (check b n ∷ m))
+first : (b : Bool) (n : ℕ) (k m : List Check) → (OfField n → ⊥) → SaysWhich (firstOf k) (firstOf m)
+    → SaysWhich (firstOf (check b n ∷ k)) (firstOf (check b n ∷ m))
 unfolding firstOf
 first true n k m none rest = same none
 first false n k m none rest = rest
