@@ -1,5 +1,5 @@
-"""A second reading of document 01, of the KTX request, of the stored grid and of the fields' numbers, in Python: the two headers, the refusals and their orders, the
-pictures, and what `plate` writes. Pictures are those of files, with the stored grid, where a call is not told otherwise.
+"""A second reading of document 01, of the KTX request, of the stored grid and of the fields' numbers, in Python: the two headers, the refusals
+and their orders, the pictures, and what `plate` writes. Pictures are those of files, with the stored grid, where a call is not told otherwise.
 
 It shares nothing with the crates but those documents. The tools that know what must come out import it.
 """

@@ -23,10 +23,11 @@ abbrev pub fieldBefore : List ℕ → ℕ → ℕ
 fieldBefore file k =
     fieldOf (oneNumberRefusal file) (plateField (widthField file) (heightField file) (bitsOf (isTwo file)) (payloadOffset file) k) k
 
--- What a PVR file said to the program before: its plate is that of today. A KTX file says what it said.
+-- What a PVR file said to the program before. Its plate is that of today.
 abbrev pub pvrSaysBefore : List ℕ → Says
 pvrSaysBefore file = record { refusals = oneNumberChecks file; plate = pvrPlate file }
 
+-- What a file said, read as what it is taken for. A KTX file said what it says today.
 abbrev pub saysBefore : List ℕ → Says
 saysBefore file = cond (isKtx file) (ktxSays file) (pvrSaysBefore file)
 
@@ -40,10 +41,10 @@ programRefusalBefore file = firstOf (programChecksBefore file)
 
 -- Each number that is said of a file beside the one before; and where that was not 14, the answer is what it was.
 pub record WhichField (file : List ℕ) : Type 0 where
-  -- The header's reader.
+  -- The answer of the header's reader.
   pub header : (r : Header) → HeaderRead file r → SaysWhich (headerNumber r) (oneNumberRefusal file)
   pub header-same : (oneNumberRefusal file ≡ 14 → ⊥) → (r : Header) → HeaderRead file r ↔ HeaderAnswered (oneNumberRefusal file) file r
-  -- What its reader tells the program.
+  -- What the reader tells the program.
   pub reading-same : (oneNumberRefusal file ≡ 14 → ⊥) → readingOf (pvrSays file) ≡ readingOf (pvrSaysBefore file)
   -- C's fields of the header: field 0 is the number, and every other is what it was.
   pub c-number : SaysWhich (headerField file 0) (fieldBefore file 0)

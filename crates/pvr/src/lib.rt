@@ -33,7 +33,7 @@ pub enum Header {
     Refused(HeaderRefusal),
 }
 
-// What the four fields say by themselves that count what a file holds.
+// What the four fields that count what a file holds say by themselves.
 enum Counts {
     OnePlate,
     Refused(HeaderRefusal),
@@ -54,7 +54,7 @@ pub fn header_refusal_number(f: HeaderRefusal) -> u64
     }
 }
 
-// The first count that is refused: the depth at 32, surfaces at 36, faces at 40, levels at 44.
+// The first refusal of the counts whose condition holds: the depth at 32, surfaces at 36, faces at 40, levels at 44.
 fn check_counts(file: &[u8]) -> Counts
     ensures { λ r. ⌜ CountsSay (now (file .entry)) r ⌝ }
 {
