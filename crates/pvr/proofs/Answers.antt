@@ -1,5 +1,5 @@
 -- How the promise of reading a header is met, and what it gives. Assumes nothing.
-use mathlib.Core.Path.{_≡_, sym, ap, _∙_}
+use mathlib.Core.Path.{_≡_, sym, ap}
 use mathlib.Core.Bool.{Bool, false}
 use mathlib.Core.List.{List}
 use mathlib.Core.Logic.{_↔_}
@@ -7,20 +7,15 @@ use Prim.Native.Nat.{ℕ, _<_}
 use native.Mathlib.Omega.{arith}
 use lib.Dec.{eqb}
 use borrow.Author.Tests.{ne-eqb}
-use Rattle.facts.specs.Checks.{firstOf, Given}
+use Rattle.facts.specs.Checks.{Given}
 use Rattle.facts.proofs.Checks.{exactly-when}
-use Rattle.facts.proofs.Order.{holds-later}
 use Rattle.files.specs.Fields.{bitsOf}
 use Rattle.files.proofs.Fields.{same-depth}
-use Rattle.pvr.specs.declared.Counts.{Counts}
-use Rattle.pvr.specs.declared.Counts.the-variants as counts
 use Rattle.pvr.specs.declared.Header.{Header}
 use Rattle.pvr.specs.declared.Header.the-variants.{Plate, Refused}
 use Rattle.pvr.specs.declared.HeaderRefusal.{HeaderRefusal}
 use Rattle.pvr.specs.declared.HeaderRefusal.the-variants.{ShortHeader, NotPvr, UnknownFormat, DepthNotOne, SurfacesNotOne, FacesNotOne, NoLevel}
-use Rattle.pvr.specs.Header.{widthField, heightField, isTwo, payloadOffset, shortHeader, notPvr, unknownFormat}
-use Rattle.pvr.specs.Header.{countChecks, headerChecks, headerRefusal, numberOf, headerNumber, HeaderRead}
-use Rattle.pvr.specs.Inner.{countsNumber, CountsSay}
+use Rattle.pvr.specs.Header.{widthField, heightField, isTwo, payloadOffset, headerChecks, headerRefusal, numberOf, headerNumber, HeaderRead}
 
 -- a refusal's number is not 0
 pub number-above : (f : HeaderRefusal) → 0 < numberOf f
@@ -68,17 +63,6 @@ module _ {file : List ℕ} where
           depth = same-depth two (isTwo file) (rw e at (p .bits));
           payload = rw e at (p .payload);
         }
-
--- past the first three checks, what the counts say is said
-module _ (file : List ℕ) (long : shortHeader file ≡ false) (pvr : notPvr file ≡ false) (known : unknownFormat file ≡ false) where
-  past-format : {n : ℕ} → n ≡ firstOf (countChecks file) → n ≡ headerRefusal file
-  past-format e = holds-later _ _ _ long (holds-later _ _ _ pvr (holds-later _ _ _ known e))
-
-  pub by-counts : {r : Counts} {f : HeaderRefusal} → CountsSay file r → r ≡ counts.Refused f → HeaderRead file (Refused f)
-  by-counts says e = by-refusal (past-format (sym (ap countsNumber e) ∙ says))
-
-  pub past-all : {r : Counts} → CountsSay file r → r ≡ counts.OnePlate → headerRefusal file ≡ 0
-  past-all says e = sym (past-format (sym (ap countsNumber e) ∙ says))
 
 -- each number is given exactly when its condition holds and no earlier one does
 pub refused-when : {file : List ℕ} {r : Header} → HeaderRead file r → (n : ℕ) → 0 < n → (headerNumber r ≡ n) ↔ Given (headerChecks file) n

@@ -1,12 +1,14 @@
 -- `pvr::read_header` meets its contract: the checks are made in their order, and past the last the fields are those of the definition. Assumes nothing.
 use mathlib.Core.Bool.{not}
-use mathlib.Core.Path.{sym, ap, _∙_}
+use mathlib.Core.Path.{_≡_, sym, ap, _∙_}
 use Prim.Native.Nat.{ℕ, _+_}
+use denote.Ref.{now}
 use lib.Dec.{ltb}
 use borrow.Author.Needs.{needs}
 use borrow.Author.Tests.{lt-ltb, le-ltb}
-use Rattle.pvr.specs.Header.{headerSize}
-use Rattle.pvr.proofs.Answers.{by-refusal, by-counts, past-all, by-plate}
+use Rattle.pvr.specs.Header.{headerSize, headerRefusal}
+use Rattle.pvr.specs.Inner.{countsNumber}
+use Rattle.pvr.proofs.Answers.{by-refusal, by-plate}
 use Rattle.facts.proofs.Order.{holds-here, holds-later}
 use Rattle.pvr.proofs.read_header.Statement.{statement}
 use Rattle.pvr.proofs.read_header.Tie as tie
@@ -44,17 +46,19 @@ check-counts-requires c κs = search needs
 enum-known-counts : tie.Need-enum-known-counts
 enum-known-counts c = search needs
 
-returns-4 : tie.Need-returns-4
-returns-4 c =
-    let counts = c .before .before .before in
-    let format = counts .before in
+-- past the length, the first bytes and the format, what the counts say is said
+past-format : (k : tie.After-check-counts) {n : ℕ} → n ≡ countsNumber (k .check-counts .result)
+    → n ≡ headerRefusal (now (k .before .before .before .before .before .before .before .before .args .file))
+past-format k e =
+    let format = k .before in
     let start = format .before .before in
-    by-counts _
-    (le-ltb _ _ (start .before .before .before .if1 .left))
-    (ap not (sym (start .before .starts-with .ensures)) ∙ start .if2 .left)
-    (le-ltb 3 _ (rw (format .before .u64-at .ensures) at (format .if3 .left)))
-    (counts .check-counts .ensures)
-    (c .before .counts .given .1)
+    holds-later _ _ _ (le-ltb _ _ (start .before .before .before .if1 .left))
+    (holds-later _ _ _ (ap not (sym (start .before .starts-with .ensures)) ∙ start .if2 .left)
+    (holds-later _ _ _ (le-ltb 3 _ (rw (format .before .u64-at .ensures) at (format .if3 .left)))
+    (e ∙ k .check-counts .ensures)))
+
+returns-4 : tie.Need-returns-4
+returns-4 c = by-refusal (past-format (c .before .before .before) (sym (ap countsNumber (c .before .counts .given .1))))
 
 enum-told : tie.Need-enum-told
 enum-told c = search needs
@@ -84,20 +88,12 @@ returns-5 : tie.Need-returns-5
 returns-5 c =
     let told = c .before .before .before in
     let counts = told .before .before in
-    let format = counts .before in
-    let start = format .before .before in
     by-plate
     (record {
-      accepted =
-          past-all _
-          (le-ltb _ _ (start .before .before .before .if1 .left))
-          (ap not (sym (start .before .starts-with .ensures)) ∙ start .if2 .left)
-          (le-ltb 3 _ (rw (format .before .u64-at .ensures) at (format .if3 .left)))
-          (counts .check-counts .ensures)
-          (told .enum-told .given .1);
+      accepted = sym (past-format counts (sym (ap countsNumber (told .enum-told .given .1))));
       width = c .before .before .u32-at .ensures .0;
       height = c .before .u32-at2 .ensures .0;
-      depth = ap (λ (n : ℕ). ltb n 2) (format .before .u64-at .ensures);
+      depth = ap (λ (n : ℕ). ltb n 2) (counts .before .before .u64-at .ensures);
       payload = ap (λ (n : ℕ). headerSize + n) (c .u32-at3 .ensures .0);
     })
 
