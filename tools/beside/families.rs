@@ -177,6 +177,7 @@ fn set_fields(c: &mut Comparison, file: &mut [u8], settings: &Settings) {
     }
 }
 
+// Of a PVR file, each field on both sides of what is asked of it.
 const PVR: &Settings = &[
     (8, &[0, 1, 2, 3, 4, 0x100]),
     (12, &[1]),
@@ -215,7 +216,7 @@ fn damaged_files(c: &mut Comparison, _: usize) {
     }
 }
 
-// The sides stand twice, so that both are large often enough.
+// Of a KTX file likewise. The sides stand twice, so that both are large often enough.
 const KTX: &Settings = &[
     (4, &[0xbb30_3220]),
     (12, &[0x0102_0304, 0]),

@@ -12,7 +12,7 @@ use Rattle.pvrtc.specs.Refusals.{zeroSide}
 use Rattle.convert.proofs.Either.{as-ktx, as-pvr}
 use Rattle.demands.specs.Orders.{numbersOf, Orders}
 
--- the program's list by what a file says, and document 01's for a PVR file
+-- the program's list by what a file says, and a PVR file's own
 abbrev listOf : List ℕ → Says → List Check
 listOf file s = s .refusals ++ ownChecks (s .plate) (length (drop (s .plate .payload) file))
 

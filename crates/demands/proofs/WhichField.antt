@@ -11,15 +11,15 @@ use borrow.Author.Tests.{le-leb, ne-eqb}
 use Rattle.facts.specs.Checks.{Check, firstOf, numbered}
 use Rattle.facts.proofs.Checks.{first-append}
 use Rattle.files.specs.declared.Reading.the-variants.{Plate, Refused}
-use Rattle.files.proofs.Answers.{numbersPass, said-passes}
+use Rattle.files.proofs.Answers.{of-number, numbersPass, said-passes}
 use Rattle.pvr.specs.Header.{HeaderAnswered}
 use Rattle.pvr.specs.OneNumber.{oneNumberRefusal, OfField, SaysWhich}
 use Rattle.pvr.specs.Reading.{pvrPlate, pvrSays}
 use Rattle.pvr.proofs.OneNumber.{same, header-which, none-same, or-else}
 use Rattle.ktx.specs.Reading.{ktxSays}
-use Rattle.convert.specs.Output.{isKtx, saysOf, storedIn, plateOf, levelData, ownChecks, programRefusal, written, Answered}
+use Rattle.convert.specs.Output.{isKtx, saysOf, storedIn, plateOf, levelData, ownChecks, programRefusal, written, Answered, Converted}
 use Rattle.convert.proofs.Said.{header-first}
-use Rattle.demands.specs.WhichField.{pvrSaysBefore, saysBefore, programRefusalBefore, WhichField}
+use Rattle.demands.specs.WhichField.{pvrSaysBefore, saysBefore, programRefusalBefore, ConvertedBefore, WhichField}
 
 -- a list with no number of a field says none
 noField : ℕ → Bool
@@ -30,9 +30,9 @@ unfolding noField
 says-no-field l t h = rw (le-leb 14 (firstOf l) (h .0), le-leb (firstOf l) 17 (h .1)) at (said-passes noField l tt t)
 
 -- and so do the program's own checks
-own-says : (file : List ℕ) → OfField (firstOf (ownChecks (storedIn file) (length (levelData file)))) → ⊥
+own-no-field : (file : List ℕ) → OfField (firstOf (ownChecks (storedIn file) (length (levelData file)))) → ⊥
 unfolding noField
-own-says file = says-no-field (ownChecks (storedIn file) (length (levelData file))) tt
+own-no-field file = says-no-field (ownChecks (storedIn file) (length (levelData file))) tt
 
 -- the header of either kind, today and before
 headers : (file : List ℕ) → SaysWhich (firstOf (saysOf file .refusals)) (firstOf (saysBefore file .refusals))
@@ -54,7 +54,7 @@ before-numbered file = by (isKtx file)
 program-which : (file : List ℕ) → SaysWhich (programRefusal file) (programRefusalBefore file)
 program-which file =
     rw (header-first file, first-append (saysBefore file .refusals) (ownChecks (storedIn file) (length (levelData file))) (before-numbered file))
-    (or-else (headers file) (own-says file))
+    (or-else (headers file) (own-no-field file))
 
 -- what is met with a number is met with another that equals it
 both-ways : (Q : ℕ → Type 0) {n m : ℕ} → n ≡ m → Q n ↔ Q m
@@ -66,20 +66,22 @@ which-field file =
     let said = program-which file in
     record {
       header = λ r p. subst (λ n. SaysWhich n (oneNumberRefusal file)) (sym (p .number)) head;
-      header-same = λ no r. both-ways (λ n. HeaderAnswered n file r) (head .other no);
-      reading-same = λ no. ap (λ (n : ℕ). cond (eqb n 0) (Plate (pvrPlate file)) (Refused n)) (head .other no);
+      header-same = λ differs r. both-ways (λ n. HeaderAnswered n file r) (head .other differs);
+      reading = λ n e. subst (λ m. SaysWhich m (oneNumberRefusal file)) (of-number (pvrSays file) (sym e) .0) head;
+      reading-same = λ differs. ap (λ (n : ℕ). cond (eqb n 0) (Plate (pvrPlate file)) (Refused n)) (head .other differs);
       c-number = head;
       c-field = λ k h. rw (ne-eqb k 0 (λ e. omega arith), none-same head);
       program = said;
-      written-same = λ no. ap (λ (n : ℕ). written n (plateOf file) (levelData file)) (said .other no);
-      laid-same = λ no image image' out out' r. laid (said .other no) image image' out out' r;
-      in-room-same = λ no image image' out out' r room.
-          let same = laid (said .other no) image image' out out' r in (
+      written-same = λ differs. ap (λ (n : ℕ). written n (plateOf file) (levelData file)) (said .other differs);
+      laid-same = laid;
+      in-room-same = λ differs image image' out out' r room.
+          let same = laid differs image image' out out' r in (
             λ a. same .0 (a .done room),
             λ b. record { done = λ _. same .1 b; too-little = λ e. absurd (false≢true (sym e ∙ room)) },
           );
     }
   where
-    laid : {n m : ℕ} → n ≡ m → (image image' out out' : List ℕ) (r : ℕ)
-        → Answered n (plateOf file) (levelData file) image image' out out' r ↔ Answered m (plateOf file) (levelData file) image image' out out' r
-    laid e image image' out out' r = both-ways (λ n. Answered n (plateOf file) (levelData file) image image' out out' r) e
+    laid : (programRefusalBefore file ≡ 14 → ⊥) → (image image' out out' : List ℕ) (r : ℕ)
+        → Converted file image image' out out' r ↔ ConvertedBefore file image image' out out' r
+    laid differs image image' out out' r =
+        both-ways (λ n. Answered n (plateOf file) (levelData file) image image' out out' r) (program-which file .other differs)

@@ -33,6 +33,6 @@ pub record Orders (file : List ℕ) : Type 0 where
   pub ktx-picture : (room : ℕ) → numbersOf (pictureChecks file room) ≡ 31 ∷ 32 ∷ 33 ∷ 34 ∷ 35 ∷ 37 ∷ 1 ∷ 2 ∷ 36 ∷ 3 ∷ 4 ∷ 5 ∷ []
   pub ktx-program : isKtx file ≡ true
       → numbersOf (programChecks file) ≡ 31 ∷ 32 ∷ 33 ∷ 34 ∷ 35 ∷ 21 ∷ 37 ∷ 1 ∷ 22 ∷ 23 ∷ 36 ∷ 3 ∷ 5 ∷ []
-  -- The program's list for both kinds says of a PVR file what document 01's says: 37 and 36 are never given.
+  -- The program's list for both kinds says of a PVR file what its own list says: 37 and 36 are never given.
   pub pvr-program : isKtx file ≡ false → programRefusal file ≡ firstOf (pvrProgramChecks file)
   pub pvr-numbers : numbersOf (pvrProgramChecks file) ≡ 11 ∷ 12 ∷ 13 ∷ 14 ∷ 15 ∷ 16 ∷ 17 ∷ 21 ∷ 1 ∷ 22 ∷ 23 ∷ 3 ∷ 5 ∷ []
