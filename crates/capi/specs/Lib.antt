@@ -1,2 +1,3 @@
 pub mod Ktx
+pub mod Level
 pub mod Plate

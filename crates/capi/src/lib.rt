@@ -6,6 +6,8 @@ ghost use Rattle.files.specs.Fields.{bitsOf};
 ghost use Rattle.pvrtc.specs.Refusals.{decodedNumber};
 ghost use Rattle.capi.specs.Plate.{modeOf, plate, texelAnswer, WroteRow, WrotePicture, headerField, plateField, sizedField};
 ghost use Rattle.capi.specs.Ktx.{ktxField, WroteKtx};
+ghost use Rattle.capi.specs.Level.{levelField, WroteLevel};
+use levels::Described;
 use pvr::Header;
 use pvrtc::Decoded;
 use pvrtc::GridMode;
@@ -129,7 +131,7 @@ pub extern "C" fn plate_ktx(file: &[u8], field: u32) -> u64
             is2bpp,
             payload,
             size,
-        } => sized_field(width, height, is2bpp, payload, size, field),
+        } => sized_field(width, height, is2bpp, payload, size as u64, field),
     }
 }
 
@@ -139,6 +141,33 @@ pub extern "C" fn plate_ktx_picture(file: &[u8], image: &mut [u32]) -> u64
     ensures { λ r. ⌜ WroteKtx (now (file .entry)) (now (image .entry)) (now (image .exit)) r ⌝ }
 {
     ktx::decoded_number(ktx::decode_ktx(file, image))
+}
+
+// A field of a level of a PVR or a KTX file.
+#[no_mangle]
+pub extern "C" fn plate_level_field(file: &[u8], level: u64, field: u32) -> u64
+    ensures { λ r. ⌜ r ≡ levelField (now (file .entry)) level field ⌝ }
+{
+    let described = levels::read_level(file, level as usize);
+    match described {
+        Described::Refused(f) => refused_field(levels::refusal_number(f), field),
+        Described::Level(l) => sized_field(
+            l.width,
+            l.height,
+            l.is2bpp,
+            l.start,
+            l.need as u64,
+            field,
+        ),
+    }
+}
+
+// A level of a PVR or a KTX file into lent words.
+#[no_mangle]
+pub extern "C" fn plate_level(file: &[u8], level: u64, image: &mut [u32]) -> u64
+    ensures { λ r. ⌜ WroteLevel (now (file .entry)) level (now (image .entry)) (now (image .exit)) r ⌝ }
+{
+    levels::decoded_number(levels::decode_level(file, level as usize, image))
 }
 
 // A field of a refused header.
@@ -161,19 +190,19 @@ fn plate_field(width: usize, height: usize, is2bpp: bool, payload: usize, field:
     }
 }
 
-// The same, where the header says a size too.
+// The same, where there is a size too.
 fn sized_field(
     width: usize,
     height: usize,
     is2bpp: bool,
     payload: usize,
-    size: u32,
+    size: u64,
     field: u32,
 ) -> u64
     ensures { λ r. ⌜ r ≡ sizedField width height (bitsOf is2bpp) payload size field ⌝ }
 {
     if field == 5 {
-        size as u64
+        size
     } else {
         plate_field(width, height, is2bpp, payload, field)
     }

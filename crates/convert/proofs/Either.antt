@@ -13,8 +13,9 @@ use Rattle.files.proofs.Starts.{start-before}
 use Rattle.pvr.specs.Header as pvr
 use Rattle.pvr.specs.Reading.{pvrSays}
 use Rattle.ktx.specs.Header as ktx
+use Rattle.ktx.specs.Header.{ktxBytes, isKtx}
 use Rattle.ktx.specs.Reading.{ktxSays}
-use Rattle.convert.specs.Output.{ktxBytes, isKtx, saysOf, headerRefusal, storedIn}
+use Rattle.convert.specs.Output.{saysOf, headerRefusal, storedIn}
 
 -- it is KTX's reader that speaks, or PVR's
 pub as-ktx : (file : List ℕ) → isKtx file ≡ true → saysOf file ≡ ktxSays file

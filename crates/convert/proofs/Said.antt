@@ -9,7 +9,7 @@ use lib.Dec.{eqb, ltb}
 use lib.ListN.{length, take}
 use borrow.Author.Tests.{eqb-true, eqb-false}
 use Rattle.facts.specs.Checks.{firstOf, Given}
-use Rattle.facts.proofs.Checks.{first-append, exactly-when}
+use Rattle.facts.proofs.Checks.{first-append, both-none, exactly-when}
 use Rattle.convert.specs.Output.{saysOf, headerRefusal, storedIn, plateOf, levelData, refusedText, refusedLine, tga, output, Converted}
 use Rattle.convert.specs.Output.{limitChecks, payloadChecks, ownChecks, programChecks, programRefusal}
 use Rattle.convert.proofs.Answers.{written-line, written-tga}
@@ -46,14 +46,6 @@ early-first file =
     header-first file
     ∙ ap (λ (n : ℕ). cond (eqb (headerRefusal file) 0) n (headerRefusal file)) (own-number (storedIn file) (length (levelData file)))
     ∙ nested (headerRefusal file) (firstOf (limitChecks (storedIn file))) (firstOf (payloadChecks (plateOf file) (length (levelData file))))
-
--- of two numbers, the first or else the second, neither is said where the choice is 0
-pub both-none : (a b : ℕ) → cond (eqb a 0) b a ≡ 0 → (a ≡ 0) × (b ≡ 0)
-both-none a b e = by (eqb a 0) refl e
-  where
-    by : (t : Bool) → eqb a 0 ≡ t → cond t b a ≡ 0 → (a ≡ 0) × (b ≡ 0)
-    by true q z = (eqb-true a 0 q, z)
-    by false q z = absurd (eqb-false a 0 q z)
 
 pub none-early : (file : List ℕ) → early file ≡ 0 → firstOf (limitChecks (storedIn file)) ≡ 0
 none-early file e = both-none (headerRefusal file) (firstOf (limitChecks (storedIn file))) e .1

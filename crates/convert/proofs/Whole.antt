@@ -2,20 +2,18 @@
 use mathlib.Core.Path.{_≡_, sym, ap, _∙_}
 use mathlib.Core.Bool.{false}
 use mathlib.Core.List.{List}
-use mathlib.Core.Logic.{⊎-elim}
 use Prim.Native.Nat.{ℕ, _-_, _<_, min}
 use native.Mathlib.Omega.{arith}
 use lib.Dec.{eqb}
-use lib.ListN.{length, take, drop, length-drop, drop-of-length-le}
-use lib.Seq.{take-all}
+use lib.ListN.{length, take, drop}
 use borrow.Author.Tests.{ne-eqb}
 use Rattle.facts.specs.Checks.{firstOf}
-use Rattle.facts.proofs.Numbers.{lt-or-le}
 use Rattle.files.specs.Reading.{readingOf}
 use Rattle.files.specs.declared.Reading.{Reading}
 use Rattle.files.specs.declared.Reading.the-variants.{Plate, Refused}
 use Rattle.files.specs.declared.Stored.{Stored}
 use Rattle.files.proofs.Answers.{of-number, of-plate}
+use Rattle.files.proofs.Fields.{data-is}
 use Rattle.pvrtc.specs.declared.Picture.{Picture}
 use Rattle.convert.specs.Inner.{Laid}
 use Rattle.convert.specs.Output.{saysOf, headerRefusal, storedIn, pictureOf, levelData, ownChecks, programRefusal, refusedLine, Answered, Converted}
@@ -23,15 +21,6 @@ use Rattle.convert.proofs.Answers.{by-line}
 use Rattle.convert.proofs.Either.{header-small}
 use Rattle.convert.proofs.Limits.{own-same}
 use Rattle.convert.proofs.Said.{header-first}
-
--- the data from the payload on, or from the file's end where that comes first
-pub data-is : (file : List ℕ) (start payload : ℕ) → start ≡ min payload (length file) → take (length file - start) (drop start file) ≡ drop payload file
-data-is file start payload e =
-    take-all (length file - start) (drop start file) (omega (arith, length-drop start file))
-    ∙ ⊎-elim
-    (λ less. let same : start ≡ payload = omega arith in ap (λ (n : ℕ). drop n file) same)
-    (λ more. drop-of-length-le file {i = start} (omega arith) ∙ sym (drop-of-length-le file more))
-    (lt-or-le payload (length file))
 
 -- the parts of an answer may be replaced by equal ones
 pub answered-same : {n m : ℕ} {p q : Picture} {d e image image' out out' : List ℕ} {r : ℕ} → n ≡ m → p ≡ q → d ≡ e

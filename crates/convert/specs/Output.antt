@@ -10,25 +10,18 @@ use lib.ListN.{length, take, drop}
 use Rattle.facts.specs.Checks.{Check, check, firstOf}
 use Rattle.facts.specs.Tab.{tab}
 use Rattle.paint.specs.Sheet.{onSheet}
-use Rattle.files.specs.Fields.{startsWith, byteOf}
+use Rattle.files.specs.Fields.{byteOf}
 use Rattle.files.specs.Reading.{Says, fitsSize}
 use Rattle.files.specs.declared.Stored.{Stored}
 use Rattle.pvr.specs.Header as pvr
 use Rattle.pvr.specs.Reading.{pvrSays}
 use Rattle.ktx.specs.Header as ktx
+use Rattle.ktx.specs.Header.{isKtx}
 use Rattle.ktx.specs.Reading.{ktxSays}
 use Rattle.pvrtc.specs.Picture.{picture, sheetOf, pictureTexel}
 use Rattle.pvrtc.specs.Refusals.{need, zeroSide, dataChecks, gridChecks}
 use Rattle.pvrtc.specs.declared.GridMode.the-variants as mode
 use Rattle.pvrtc.specs.declared.Picture.{Picture}
-
--- The first bytes of a file that is taken as KTX: AB 4B 54 58.
-abbrev pub ktxBytes : List ℕ
-ktxBytes = 0xAB ∷ 0x4B ∷ 0x54 ∷ 0x58 ∷ []
-
--- Whether a file is taken as KTX. All else is taken as PVR.
-abbrev pub isKtx : List ℕ → Bool
-isKtx file = startsWith file ktxBytes
 
 -- What a file says, read as what it is taken for.
 unfoldable pub saysOf : List ℕ → Says

@@ -15,14 +15,11 @@ use pvrtc::Decoded;
 use pvrtc::GridMode;
 use pvrtc::Picture;
 
-// The first bytes of a file that is taken as KTX.
-const KTX_BYTES: [u8; 4] = [0xAB, 0x4B, 0x54, 0x58];
-
 // What a file says, by the reader that its first bytes choose.
 fn read_file(file: &[u8]) -> Reading
     ensures { λ r. ⌜ r ≡ readingOf (saysOf (now (file .entry))) ⌝ }
 {
-    if files::starts_with(file, &KTX_BYTES) {
+    if ktx::is_ktx(file) {
         return ktx::read_plate(file);
     }
     pvr::read_plate(file)

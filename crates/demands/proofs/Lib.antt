@@ -3,6 +3,7 @@ pub mod Damage
 pub mod Gathered
 pub mod Idle
 pub mod Later
+pub mod Levels
 pub mod Local
 pub mod LocalCalls
 pub mod LocalFiles

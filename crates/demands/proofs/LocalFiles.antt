@@ -17,7 +17,7 @@ use Rattle.files.proofs.Answers.{SameSays}
 use Rattle.files.proofs.Starts.{start-even}
 use Rattle.pvr.specs.Header as pvr
 use Rattle.pvr.proofs.NoEffect as pvr-same
-use Rattle.ktx.specs.Header.{sizePlace, payloadOffset}
+use Rattle.ktx.specs.Header.{ktxBytes, isKtx, sizePlace, payloadOffset}
 use Rattle.ktx.specs.NoEffect.{SameHeader}
 use Rattle.ktx.specs.Picture as ktx
 use Rattle.ktx.specs.Picture.{pictureRefusal, KtxDecoded}
@@ -26,7 +26,7 @@ use Rattle.ktx.proofs.NoEffect as ktx-same
 use Rattle.pvrtc.specs.declared.Call.the-variants.{Block}
 use Rattle.pvrtc.specs.declared.Picture.{Picture}
 use Rattle.pvrtc.proofs.Accepted.{passed}
-use Rattle.convert.specs.Output.{ktxBytes, isKtx, saysOf, storedIn, pictureOf, plateOf, levelData, programRefusal, tga, output}
+use Rattle.convert.specs.Output.{saysOf, storedIn, pictureOf, plateOf, levelData, programRefusal, tga, output}
 use Rattle.convert.proofs.Either.{as-ktx, as-pvr, payload-behind}
 use Rattle.demands.specs.Footprint.{SameOutside}
 use Rattle.demands.specs.LocalCalls.{blocksOf, changed, mostTouched}

@@ -16,12 +16,13 @@ use Rattle.files.proofs.Starts.{start-even}
 use Rattle.pvr.specs.Header.{headerSize, payloadOffset}
 use Rattle.pvr.specs.NoEffect.{hasNoEffect, SameHeader}
 use Rattle.pvr.proofs.NoEffect as pvr
+use Rattle.ktx.specs.Header.{ktxBytes, isKtx}
 use Rattle.ktx.specs.NoEffect.{SameButIgnored, SameHeader as KtxHeader}
 use Rattle.ktx.specs.Picture as ktx-picture
 use Rattle.ktx.proofs.NoEffect as ktx
 use Rattle.capi.specs.Ktx.{ktxField, WroteKtx}
 use Rattle.capi.specs.Plate.{sizedField, fieldOf, headerField}
-use Rattle.convert.specs.Output.{ktxBytes, isKtx, saysOf, pictureOf, plateOf, levelData, programRefusal, written, output, Converted}
+use Rattle.convert.specs.Output.{saysOf, pictureOf, plateOf, levelData, programRefusal, written, output, Converted}
 use Rattle.convert.proofs.Either.{as-ktx, as-pvr}
 use Rattle.convert.proofs.Limits.{own-same}
 use Rattle.convert.proofs.Past as past

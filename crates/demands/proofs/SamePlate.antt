@@ -9,7 +9,7 @@ use lib.ListN.{length, getD, take, drop, take-append-drop}
 use lib.Seq.{ext-getD, getD-take, length-take-le}
 use borrow.Author.Tests.{eqb-true, eqb-false, eq-eqb, le-ltb}
 use Rattle.facts.specs.Checks.{Check, check, firstOf}
-use Rattle.facts.proofs.Checks.{none-said, first-append}
+use Rattle.facts.proofs.Checks.{none-said, neither-said}
 use Rattle.files.specs.Reading.{Says}
 use Rattle.files.specs.declared.Stored.{Stored}
 use Rattle.pvr.specs.Header as pvr
@@ -30,7 +30,7 @@ use Rattle.convert.specs.Output.{saysOf, headerRefusal, storedIn, pictureOf, pl
 use Rattle.convert.specs.Output.{skippedLimit, ownChecks, programRefusal, refusedLine, tga, output}
 use Rattle.convert.proofs.Answers.{tga-same, written-line}
 use Rattle.convert.proofs.Either.{as-ktx, as-pvr}
-use Rattle.convert.proofs.Said.{header-first, both-none}
+use Rattle.convert.proofs.Said.{header-first}
 use Rattle.demands.specs.SamePlate.{SamePlate, SameAnswers}
 use Rattle.demands.proofs.Past.{nothing-past}
 use Rattle.demands.proofs.Program.{block-accepted, is-tga}
@@ -126,7 +126,7 @@ module _ {f g : List ℕ} (s : SamePlate f g) where
   g-number =
       rest-said g
       (ap (λ (t : Says). firstOf (t .refusals)) g-says
-      ∙ both-none _ _ (sym (first-append (ktx.fieldChecks g) (check (ktx.cutShort g) 37 ∷ []) tt) ∙ s .ktx-header) .0)
+      ∙ neither-said (ktx.fieldChecks g) (check (ktx.cutShort g) 37 ∷ []) tt (s .ktx-header) .0)
       (ap (λ (t : Says). longSkipped (t .plate)) g-says ∙ le-ltb skippedLimit (ktx.keyValueBytes g) (s .key-values))
       (ap (λ (t : Says). t .plate .cut) g-says ∙ none-said (ktx.headerChecks g) tt (s .ktx-header) 37)
       (ap (λ (t : Says). otherSize (t .plate)) g-says ∙ ap not (eq-eqb (ktx.sizeWord g) _ g-size))

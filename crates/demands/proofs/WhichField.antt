@@ -16,8 +16,9 @@ use Rattle.pvr.specs.Header.{HeaderAnswered}
 use Rattle.pvr.specs.OneNumber.{oneNumberRefusal, OfField, SaysWhich}
 use Rattle.pvr.specs.Reading.{pvrPlate, pvrSays}
 use Rattle.pvr.proofs.OneNumber.{same, header-which, none-same, or-else}
+use Rattle.ktx.specs.Header.{isKtx}
 use Rattle.ktx.specs.Reading.{ktxSays}
-use Rattle.convert.specs.Output.{isKtx, saysOf, storedIn, plateOf, levelData, ownChecks, programRefusal, written, Answered, Converted}
+use Rattle.convert.specs.Output.{saysOf, storedIn, plateOf, levelData, ownChecks, programRefusal, written, Answered, Converted}
 use Rattle.convert.proofs.Said.{header-first}
 use Rattle.demands.specs.WhichField.{pvrSaysBefore, saysBefore, programRefusalBefore, ConvertedBefore, WhichField}
 

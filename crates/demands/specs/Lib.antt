@@ -1,6 +1,7 @@
 pub mod Damage
 pub mod Footprint
 pub mod Idle
+pub mod Levels
 pub mod Local
 pub mod LocalCalls
 pub mod LocalFiles

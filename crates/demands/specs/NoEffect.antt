@@ -8,7 +8,7 @@ use lib.ListN.{length, getD}
 use Rattle.pvr.specs.Header.{HeaderRead as PvrHeaderRead}
 use Rattle.pvr.specs.NoEffect.{hasNoEffect}
 use Rattle.pvr.specs.declared.Header.{Header as PvrHeader}
-use Rattle.ktx.specs.Header.{payloadOffset, HeaderRead as KtxHeaderRead}
+use Rattle.ktx.specs.Header.{isKtx, payloadOffset, HeaderRead as KtxHeaderRead}
 use Rattle.ktx.specs.NoEffect.{SameButIgnored}
 use Rattle.ktx.specs.Picture as ktx
 use Rattle.ktx.specs.Picture.{KtxDecoded}
@@ -17,7 +17,7 @@ use Rattle.ktx.specs.declared.Header.{Header as KtxHeader}
 use Rattle.pvrtc.specs.Refusals.{need}
 use Rattle.capi.specs.Ktx.{ktxField, WroteKtx}
 use Rattle.capi.specs.Plate.{headerField}
-use Rattle.convert.specs.Output.{isKtx, storedIn, plateOf, output, Converted, ConvertedInRoom}
+use Rattle.convert.specs.Output.{storedIn, plateOf, output, Converted, ConvertedInRoom}
 
 -- Two files that differ in PVR's flags, colour space and channel type alone.
 pub record SameButFlags (f g : List ℕ) : Type 0 where

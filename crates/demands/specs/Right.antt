@@ -16,7 +16,11 @@ use Rattle.pvrtc.specs.declared.GridMode.{GridMode}
 use Rattle.pvrtc.specs.declared.GridMode.the-variants.{Rust, Stored}
 use Rattle.pvrtc.specs.declared.Picture.{Picture}
 use Rattle.pvrtc.specs.declared.Texel.the-variants.{Word}
+use Rattle.levels.specs.Calls.{LevelDecoded}
+use Rattle.levels.specs.Levels as level
+use Rattle.levels.specs.declared.Decoded.the-variants.{Done as LevelDone}
 use Rattle.capi.specs.Ktx.{WroteKtx}
+use Rattle.capi.specs.Level.{WroteLevel}
 use Rattle.capi.specs.Plate.{texelAnswer, WroteRow, WrotePicture}
 use Rattle.convert.specs.Output.{plateOf, levelData, programRefusal, output}
 
@@ -41,6 +45,11 @@ pub data Gives (p : Picture) (d : List ℕ) (x y v : ℕ) : Type 0 where
       → x < p .width → y < p .height → v ≡ getD new (placeIn p x y) 0 → Gives p d x y v
   by-c-ktx : (file old new : List ℕ) → ktx.plateOf file ≡ p → ktx.levelData file ≡ d → WroteKtx file old new 0 → x < p .width → y < p .height
       → v ≡ getD new (placeIn p x y) 0 → Gives p d x y v
+  -- The call on a level of a file of either kind likewise, and so in C.
+  by-level : (file : List ℕ) (k : ℕ) (old new : List ℕ) → level.pictureOf file k ≡ p → level.levelData file k ≡ d → LevelDecoded file k old new LevelDone
+      → x < p .width → y < p .height → v ≡ getD new (placeIn p x y) 0 → Gives p d x y v
+  by-c-level : (file : List ℕ) (k : ℕ) (old new : List ℕ) → level.pictureOf file k ≡ p → level.levelData file k ≡ d → WroteLevel file k old new 0
+      → x < p .width → y < p .height → v ≡ getD new (placeIn p x y) 0 → Gives p d x y v
   -- The program writes it for a file of either kind, behind the 18 bytes of the header.
   by-program : (file : List ℕ) → plateOf file ≡ p → levelData file ≡ d → programRefusal file ≡ 0 → x < p .width → y < p .height
       → v ≡ u32At (output file) (18 + 4 * placeIn p x y) → Gives p d x y v

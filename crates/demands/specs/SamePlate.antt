@@ -7,12 +7,13 @@ use Prim.Native.Nat.{ℕ, _≤_, _<_}
 use lib.ListN.{length, getD}
 use Rattle.pvr.specs.Header as pvr
 use Rattle.ktx.specs.Header as ktx
+use Rattle.ktx.specs.Header.{isKtx}
 use Rattle.ktx.specs.Inner.{calledAs}
 use Rattle.ktx.specs.Picture.{KtxDecoded}
 use Rattle.pvrtc.specs.Calls.{BlockDecoded}
 use Rattle.pvrtc.specs.Refusals.{need}
 use Rattle.pvrtc.specs.declared.Decoded.{Decoded}
-use Rattle.convert.specs.Output.{isKtx, plateOf, levelData, skippedLimit, output}
+use Rattle.convert.specs.Output.{plateOf, levelData, skippedLimit, output}
 
 -- A PVR file f and a KTX file g, neither refused for its header or for what it skips, that hold the same plate: the same sizes and depth, and
 -- the same payload bytes. The KTX file says the size that is needed.

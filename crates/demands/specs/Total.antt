@@ -22,11 +22,17 @@ use Rattle.ktx.specs.Header.{HeaderRead as KtxHeaderRead}
 use Rattle.ktx.specs.Picture.{plateOf as ktxPlateOf, levelData as ktxData, pictureChecks, decodedNumber as ktxNumber, KtxDecoded}
 use Rattle.ktx.specs.declared.Decoded.{Decoded as KtxAnswer}
 use Rattle.ktx.specs.declared.Header.{Header as KtxHeader}
+use Rattle.levels.specs.Calls.{describedNumber, LevelRead, LevelDecoded}
+use Rattle.levels.specs.Levels.{pictureOf, levelData as dataOfLevel}
+use Rattle.levels.specs.Refusals.{levelChecks, decodeChecks, decodedNumber as levelNumber}
+use Rattle.levels.specs.declared.Decoded.{Decoded as LevelAnswer}
+use Rattle.levels.specs.declared.Described.{Described}
 use Rattle.capi.specs.Ktx.{ktxField, WroteKtx}
+use Rattle.capi.specs.Level.{levelField, WroteLevel}
 use Rattle.capi.specs.Plate.{texelAnswer, WroteRow, WrotePicture, headerField}
 use Rattle.convert.specs.Output.{plateOf, levelData, programChecks, programRefusal, refusedLine, tga, output}
 
--- No two outcomes of a call meet its promise: of the three calls on data, of both header readers, and of the call on a KTX file.
+-- No two outcomes of a call meet its promise: of the three calls on data, of both header readers, of the call on a KTX file, and of both on a level.
 pub record OneOutcome : Type 0 where
   pub texel : (p : Picture) (d : List ℕ) (x y : ℕ) (r s : Texel) → TexelRead p d x y r → TexelRead p d x y s → r ≡ s
   pub row : (p : Picture) (d : List ℕ) (y : ℕ) (old new new' : List ℕ) (r s : Decoded)
@@ -37,6 +43,9 @@ pub record OneOutcome : Type 0 where
   pub ktx-header : (file : List ℕ) (r s : KtxHeader) → KtxHeaderRead file r → KtxHeaderRead file s → r ≡ s
   pub ktx-picture : (file old new new' : List ℕ) (r s : KtxAnswer)
       → KtxDecoded file old new r → KtxDecoded file old new' s → (r ≡ s) × (new ≡ new')
+  pub level : (file : List ℕ) (k : ℕ) (r s : Described) → LevelRead file k r → LevelRead file k s → r ≡ s
+  pub level-picture : (file : List ℕ) (k : ℕ) (old new new' : List ℕ) (r s : LevelAnswer)
+      → LevelDecoded file k old new r → LevelDecoded file k old new' s → (r ≡ s) × (new ≡ new')
 
 -- What a texel call with these checks says by its number n and its word v.
 pub record TexelOutcome (l : List Check) (texel n v : ℕ) : Type 0 where
@@ -98,6 +107,17 @@ pub record TotalKtx (file : List ℕ) : Type 0 where
       → WordsOutcome (pictureChecks file (length old)) (pictureTexels (ktxPlateOf file) (ktxData file)) old new (ktxNumber r)
   pub c-picture : (old new : List ℕ) (n : ℕ) → WroteKtx file old new n
       → WordsOutcome (pictureChecks file (length old)) (pictureTexels (ktxPlateOf file) (ktxData file)) old new n
+
+-- Level k of a file: its description and its picture, and both in C.
+pub record TotalLevel (file : List ℕ) (k : ℕ) : Type 0 where
+  -- A number is given exactly when its condition holds and no earlier one does.
+  pub description : (r : Described) → LevelRead file k r → (n : ℕ) → 0 < n → (describedNumber r ≡ n) ↔ Given (levelChecks file k) n
+  pub c-description : (n : ℕ) → 0 < n → (levelField file k 0 ≡ n) ↔ Given (levelChecks file k) n
+  -- A refusal changes no lent word, and success writes the texels in front.
+  pub picture : (old new : List ℕ) (r : LevelAnswer) → LevelDecoded file k old new r
+      → WordsOutcome (decodeChecks file k (length old)) (pictureTexels (pictureOf file k) (dataOfLevel file k)) old new (levelNumber r)
+  pub c-picture : (old new : List ℕ) (n : ℕ) → WroteLevel file k old new n
+      → WordsOutcome (decodeChecks file k (length old)) (pictureTexels (pictureOf file k) (dataOfLevel file k)) old new n
 
 -- Data past 8n bytes has no effect: an outcome is right for d exactly when it is for d followed by anything.
 pub record PastUnread (p : Picture) (d more : List ℕ) : Type 0 where

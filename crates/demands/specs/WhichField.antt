@@ -14,9 +14,10 @@ use Rattle.pvr.specs.Header.{widthField, heightField, isTwo, payloadOffset, hea
 use Rattle.pvr.specs.OneNumber.{oneNumberChecks, oneNumberRefusal, SaysWhich}
 use Rattle.pvr.specs.Reading.{pvrPlate, pvrSays}
 use Rattle.pvr.specs.declared.Header.{Header}
+use Rattle.ktx.specs.Header.{isKtx}
 use Rattle.ktx.specs.Reading.{ktxSays}
 use Rattle.capi.specs.Plate.{plateField, fieldOf, headerField}
-use Rattle.convert.specs.Output.{isKtx, storedIn, plateOf, levelData, ownChecks, programRefusal, written, output}
+use Rattle.convert.specs.Output.{storedIn, plateOf, levelData, ownChecks, programRefusal, written, output}
 use Rattle.convert.specs.Output.{Answered, Converted, roomy, ConvertedInRoom}
 
 -- A field of the header that C was told before.

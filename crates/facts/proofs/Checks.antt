@@ -1,6 +1,6 @@
 -- A number is said exactly when its condition holds and no earlier one does. Assumes nothing.
 use mathlib.Core.Path.{_≡_, refl, sym, _∙_}
-use mathlib.Core.Bool.{Bool, true, false, cond}
+use mathlib.Core.Bool.{Bool, true, false, cond, _&&_}
 use mathlib.Core.List.{List, [], _∷_, _++_}
 use mathlib.Core.Logic.{_↔_}
 use Prim.Native.Nat.{ℕ, zero, suc, _+_, _<_}
@@ -8,7 +8,7 @@ use native.Mathlib.Nat.{le-of-suc-le-suc, not-suc-le-zero}
 use native.Mathlib.Omega.{arith}
 use lib.Dec.{T, eqb, ltb, ltb→lt}
 use lib.ListN.{length}
-use borrow.Author.Tests.{ne-eqb}
+use borrow.Author.Tests.{ne-eqb, eqb-true, eqb-false}
 use Rattle.facts.specs.Checks.{Check, firstOf, numbered, condition, at, Given}
 use Rattle.facts.proofs.Finite.{and-left, and-right}
 
@@ -88,3 +88,25 @@ said-first l m {n} p e h =
 
 pub said-later : (l m : List Check) {n : ℕ} → T (numbered l) → 0 ≡ firstOf l → n ≡ firstOf m → n ≡ firstOf (l ++ m)
 said-later l m p z e = e ∙ sym (first-append l m p ∙ rw (sym z))
+
+-- of two numbers, the first or else the second, neither is said where the choice is 0
+pub both-none : (a b : ℕ) → cond (eqb a 0) b a ≡ 0 → (a ≡ 0) × (b ≡ 0)
+both-none a b e = by (eqb a 0) refl e
+  where
+    by : (t : Bool) → eqb a 0 ≡ t → cond t b a ≡ 0 → (a ≡ 0) × (b ≡ 0)
+    by true q z = (eqb-true a 0 q, z)
+    by false q z = absurd (eqb-false a 0 q z)
+
+-- and so of two lists: where no number is said, neither says one
+pub neither-said : (l m : List Check) → T (numbered l) → firstOf (l ++ m) ≡ 0 → (firstOf l ≡ 0) × (firstOf m ≡ 0)
+neither-said l m p e = both-none (firstOf l) (firstOf m) (sym (first-append l m p) ∙ e)
+
+-- two lists of numbers above 0 make one
+pub numbered-append : (l m : List Check) → T (numbered l) → T (numbered m) → T (numbered (l ++ m))
+numbered-append [] m p q = q
+numbered-append (c ∷ l) m p q =
+    both (ltb 0 (c .number)) (numbered (l ++ m)) (and-left (ltb 0 (c .number)) (numbered l) p) (numbered-append l m (later-numbered c l p) q)
+  where
+    both : (a b : Bool) → T a → T b → T (a && b)
+    both true b s t = t
+    both false b s t = s

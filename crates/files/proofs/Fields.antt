@@ -2,14 +2,16 @@
 use mathlib.Core.Path.{_≡_, refl, sym, ap, _∙_}
 use mathlib.Core.Bool.{Bool, true, false, not}
 use mathlib.Core.List.{List, _++_}
-use Prim.Native.Nat.{ℕ, _+_, _*_, _/_, _%_, _<_, _≤_}
+use mathlib.Core.Logic.{⊎-elim}
+use Prim.Native.Nat.{ℕ, _+_, _-_, _*_, _/_, _%_, _<_, _≤_, min}
 use native.Mathlib.Nat.{add-assoc, div-one, div-div-eq-div-mul, div-add-mod', mod-eq-of-lt}
 use native.Mathlib.Omega.{arith}
 use lib.Dec.{T}
-use lib.ListN.{length, getD, drop, length-drop, List·getD-append}
-use lib.Seq.{ext-getD, getD-drop}
+use lib.ListN.{length, getD, take, drop, length-drop, drop-of-length-le, List·getD-append}
+use lib.Seq.{ext-getD, getD-drop, take-all}
 use Rattle.facts.specs.Finite.{allBelow}
 use Rattle.facts.proofs.Finite.{below}
+use Rattle.facts.proofs.Numbers.{lt-or-le}
 use Rattle.files.specs.Fields.{u32At, byteOf, bitsOf}
 
 -- two files with the same four bytes from a place on have the same number there
@@ -69,6 +71,15 @@ pub rest-same : (f g : List ℕ) (n : ℕ) → length f ≡ length g → ((i : �
 rest-same f g n even e =
     ext-getD 0 (drop n f) (drop n g) (length-drop n f ∙ omega (arith, even, length-drop n g))
     (λ k _. getD-drop n f k 0 ∙ e (n + k) (omega arith) ∙ sym (getD-drop n g k 0))
+
+-- the data from the payload on, or from the file's end where that comes first
+pub data-is : (file : List ℕ) (start payload : ℕ) → start ≡ min payload (length file) → take (length file - start) (drop start file) ≡ drop payload file
+data-is file start payload e =
+    take-all (length file - start) (drop start file) (omega (arith, length-drop start file))
+    ∙ ⊎-elim
+    (λ less. let same : start ≡ payload = omega arith in ap (λ (n : ℕ). drop n file) same)
+    (λ more. drop-of-length-le file {i = start} (omega arith) ∙ sym (drop-of-length-le file more))
+    (lt-or-le payload (length file))
 
 -- the bits of a texel tell the depth
 pub same-depth : (a b : Bool) → bitsOf a ≡ bitsOf b → a ≡ b

@@ -20,8 +20,8 @@ use Rattle.ktx.specs.declared.Header.{Header}
 use Rattle.ktx.specs.declared.Header.the-variants.{Plate, Refused}
 use Rattle.ktx.specs.declared.HeaderRefusal.{HeaderRefusal}
 use Rattle.ktx.specs.declared.HeaderRefusal.the-variants.{ShortHeader, NotKtx, OtherByteOrder, UnknownFormat, NotOnePlate, CutShort}
-use Rattle.ktx.specs.declared.reader.Fields.{Fields}
-use Rattle.ktx.specs.declared.reader.Fields.the-variants as fields
+use Rattle.ktx.specs.declared.Fields.{Fields}
+use Rattle.ktx.specs.declared.Fields.the-variants as fields
 use Rattle.ktx.specs.Header.{widthField, heightField, isTwo, payloadOffset, sizeWord, cutShort}
 use Rattle.ktx.specs.Header.{fieldChecks, headerChecks, headerRefusal, numberOf, headerNumber, HeaderRead}
 use Rattle.ktx.specs.Inner.{fieldsNumber, FieldsSay}

@@ -38,16 +38,16 @@ past-fields i h =
 -- two files with the same fields
 module _ {f g : List ℕ} (s : SameFields f g) where
   -- a field none of whose bytes is ignored
-  field : (at : ℕ) → at + 4 ≤ headerSize → T (allBelow (λ k. not (isIgnored (at + k))) 4) → u32At f at ≡ u32At g at
+  pub field : (at : ℕ) → at + 4 ≤ headerSize → T (allBelow (λ k. not (isIgnored (at + k))) 4) → u32At f at ≡ u32At g at
   field = field-kept f g isIgnored headerSize (s .bytes)
 
-  same-format : internalFormat f ≡ internalFormat g
+  pub same-format : internalFormat f ≡ internalFormat g
   same-format = field 28 (omega arith) tt
 
   pub same-key-values : keyValueBytes f ≡ keyValueBytes g
   same-key-values = field 60 (omega arith) tt
 
-  same-place : sizePlace f ≡ sizePlace g
+  pub same-place : sizePlace f ≡ sizePlace g
   same-place = ap (λ (n : ℕ). headerSize + n) same-key-values
 
   same-order : otherByteOrder f ≡ otherByteOrder g

@@ -18,12 +18,12 @@ use Rattle.ktx.specs.Picture.{decodedNumber, KtxDecoded}
 use Rattle.ktx.proofs.Answers.{number-above}
 
 -- a refusal's number tells which it is
-ofNumber : ℕ → HeaderRefusal
+pub ofNumber : ℕ → HeaderRefusal
 ofNumber n =
     cond (eqb n 31) ShortHeader
     (cond (eqb n 32) NotKtx (cond (eqb n 33) OtherByteOrder (cond (eqb n 34) UnknownFormat (cond (eqb n 35) NotOnePlate CutShort))))
 
-back : (f : HeaderRefusal) → ofNumber (numberOf f) ≡ f
+pub back : (f : HeaderRefusal) → ofNumber (numberOf f) ≡ f
 unfolding ofNumber
 back ShortHeader = refl
 back NotKtx = refl
@@ -50,7 +50,7 @@ one-header file r s a b =
     (a .payload ∙ sym (b .payload)) (a .size ∙ sym (b .size))
 
 -- a header's number is 31 to 37 and not 36, and those of the block call are 6 at most
-from-31 : (f : HeaderRefusal) → (31 ≤ numberOf f) × ((numberOf f ≡ 36) → ⊥)
+pub from-31 : (f : HeaderRefusal) → (31 ≤ numberOf f) × ((numberOf f ≡ 36) → ⊥)
 from-31 ShortHeader = (omega arith, λ e. omega arith)
 from-31 NotKtx = (omega arith, λ e. omega arith)
 from-31 OtherByteOrder = (omega arith, λ e. omega arith)

@@ -1,6 +1,6 @@
 -- From a header's answer to the picture of the whole file. Assumes nothing.
 use mathlib.Core.Path.{_≡_, refl, sym, ap, _∙_}
-use mathlib.Core.Bool.{Bool, true, false, cond, not, true≢false}
+use mathlib.Core.Bool.{Bool, true, false, not, true≢false}
 use mathlib.Core.List.{List}
 use Prim.Native.Nat.{ℕ, _-_, _≤_}
 use native.Mathlib.Omega.{arith}
@@ -9,7 +9,7 @@ use lib.ListN.{length, take, drop, length-drop}
 use lib.Seq.{take-all}
 use borrow.Author.Tests.{eqb-true, ltb-false, ne-eqb}
 use Rattle.facts.specs.Checks.{Check, firstOf}
-use Rattle.facts.proofs.Checks.{none-said, first-append, said-first}
+use Rattle.facts.proofs.Checks.{none-said, neither-said, first-append, said-first}
 use Rattle.pvrtc.specs.Calls.{refusal, BlockDecoded}
 use Rattle.pvrtc.specs.Picture.{picture}
 use Rattle.pvrtc.specs.Refusals.{need}
@@ -97,11 +97,7 @@ module _ (file : List ℕ) (room : ℕ) (none : pictureRefusal file room ≡ 0) 
   own = sizedChecks (plateOf file) (sizeWord file) (length (levelData file)) room
 
   pub header-accepted : headerRefusal file ≡ 0
-  header-accepted = by (eqb (headerRefusal file) 0) refl (sym (first-append (headerChecks file) own tt) ∙ none)
-    where
-      by : (t : Bool) → eqb (headerRefusal file) 0 ≡ t → cond t (firstOf own) (headerRefusal file) ≡ 0 → headerRefusal file ≡ 0
-      by true e q = eqb-true (headerRefusal file) 0 e
-      by false e q = q
+  header-accepted = neither-said (headerChecks file) own tt none .0
 
   pub size-fits : sizeWord file ≡ need (plateOf file)
   size-fits = is-equal (none-said own tt (sym (picture-speaks file room header-accepted) ∙ none) 36)

@@ -1,7 +1,7 @@
 -- The KTX version 1 header, as document 02 says it (W1). Assumes nothing: these are definitions.
 -- `file` is the list of the file's bytes; a byte past its end counts as 0.
 use mathlib.Core.Path.{_≡_}
-use mathlib.Core.Bool.{Bool, not, _||_}
+use mathlib.Core.Bool.{Bool, cond, not, _||_}
 use mathlib.Core.List.{List, [], _∷_, _++_}
 use Prim.Native.Nat.{ℕ, _+_}
 use lib.Dec.{eqb, ltb}
@@ -20,6 +20,14 @@ headerSize = 64
 -- The identifier: twelve bytes.
 abbrev pub identifier : List ℕ
 identifier = 0xAB ∷ 0x4B ∷ 0x54 ∷ 0x58 ∷ 0x20 ∷ 0x31 ∷ 0x31 ∷ 0xBB ∷ 0x0D ∷ 0x0A ∷ 0x1A ∷ 0x0A ∷ []
+
+-- The first bytes of a file that is taken as KTX: AB 4B 54 58.
+abbrev pub ktxBytes : List ℕ
+ktxBytes = 0xAB ∷ 0x4B ∷ 0x54 ∷ 0x58 ∷ []
+
+-- Whether a file is taken as KTX. All else is taken as PVR.
+abbrev pub isKtx : List ℕ → Bool
+isKtx file = startsWith file ktxBytes
 
 -- The byte order.
 abbrev pub byteOrder : List ℕ → ℕ
@@ -57,9 +65,17 @@ depthField file = u32At file 44
 abbrev pub elementsField : List ℕ → ℕ
 elementsField file = u32At file 48
 
--- The faces. The levels follow, at place 56.
+-- The faces.
 abbrev pub facesField : List ℕ → ℕ
 facesField file = u32At file 52
+
+-- The levels.
+abbrev pub levelsField : List ℕ → ℕ
+levelsField file = u32At file 56
+
+-- How many levels the file holds: zero means one.
+abbrev pub levelCount : List ℕ → ℕ
+levelCount file = cond (eqb (levelsField file) 0) 1 (levelsField file)
 
 -- How many key/value bytes there are.
 abbrev pub keyValueBytes : List ℕ → ℕ
@@ -113,6 +129,10 @@ unknownFormat file =
 -- Depth or array elements is not 0, or faces is not 1.
 unfoldable pub notOnePlate : List ℕ → Bool
 notOnePlate file = not (eqb (depthField file) 0) || not (eqb (elementsField file) 0) || not (eqb (facesField file) 1)
+
+-- The key/value bytes reach past the end.
+abbrev pub keyValuesCut : List ℕ → Bool
+keyValuesCut file = ltb (length file) (sizePlace file)
 
 -- The key/value bytes or the size word reach past the end.
 abbrev pub cutShort : List ℕ → Bool

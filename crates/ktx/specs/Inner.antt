@@ -15,8 +15,8 @@ use Rattle.ktx.specs.Header.{fieldChecks, numberOf}
 use Rattle.ktx.specs.Picture.{sizedChecks, decodedNumber}
 use Rattle.ktx.specs.declared.Decoded.{Decoded}
 use Rattle.ktx.specs.declared.Decoded.the-variants as decoded
-use Rattle.ktx.specs.declared.reader.Fields.{Fields}
-use Rattle.ktx.specs.declared.reader.Fields.the-variants.{Fine, Refused}
+use Rattle.ktx.specs.declared.Fields.{Fields}
+use Rattle.ktx.specs.declared.Fields.the-variants.{Fine, Refused}
 
 -- The number that the fields say: 0 for none.
 abbrev pub fieldsNumber : Fields → ℕ

@@ -4,9 +4,14 @@ mod reader;
 
 pub use decoder::decode_ktx;
 pub use decoder::decoded_number;
+pub use reader::check_fields;
 pub use reader::header_refusal_number;
+pub use reader::is_ktx;
+pub use reader::level_count;
 pub use reader::read_header;
 pub use reader::read_plate;
+pub use reader::size_place;
+pub use reader::stored_plate;
 
 // Why a header is refused, in document 02's words.
 pub enum HeaderRefusal {
@@ -16,6 +21,12 @@ pub enum HeaderRefusal {
     UnknownFormat,
     NotOnePlate,
     CutShort,
+}
+
+// What the header's fields say by themselves.
+pub enum Fields {
+    Fine,
+    Refused(HeaderRefusal),
 }
 
 // What reading a header answers.

@@ -1,10 +1,11 @@
 // The header of a KTX version 1 file, with what follows it up to the data: key/value bytes and a size word.
+use crate::Fields;
 use crate::Header;
 use crate::HeaderRefusal;
 ghost use mathlib.Core.Path.{_≡_};
 ghost use Prim.Native.Nat.{_<_};
 ghost use Rattle.files.specs.Reading.{readingOf};
-ghost use Rattle.ktx.specs.Header.{hasFourBits, hasTwoBits, isPvrtc, unknownFormat, notOnePlate, sizeWord, numberOf, HeaderRead};
+ghost use Rattle.ktx.specs.Header.{isKtx, hasFourBits, hasTwoBits, isPvrtc, unknownFormat, notOnePlate, levelCount, sizePlace, sizeWord, numberOf, HeaderRead};
 ghost use Rattle.ktx.specs.Inner.{FieldsSay};
 ghost use Rattle.ktx.specs.Reading.{ktxPlate, ktxSays};
 use files::Reading;
@@ -27,10 +28,14 @@ const IDENTIFIER: [u8; 12] = [
     0x0A,
 ];
 
-// What the header's fields say by themselves.
-enum Fields {
-    Fine,
-    Refused(HeaderRefusal),
+// The first bytes of a file that is taken as KTX.
+const KTX_BYTES: [u8; 4] = [0xAB, 0x4B, 0x54, 0x58];
+
+// Whether a file is taken as KTX.
+pub fn is_ktx(file: &[u8]) -> bool
+    ensures { λ r. ⌜ r ≡ isKtx (now (file .entry)) ⌝ }
+{
+    files::starts_with(file, &KTX_BYTES)
 }
 
 // Document 02's number of a refusal.
@@ -94,7 +99,7 @@ fn is_not_one_plate(file: &[u8]) -> bool
 }
 
 // The first refusal of the fields whose condition holds.
-fn check_fields(file: &[u8]) -> Fields
+pub fn check_fields(file: &[u8]) -> Fields
     ensures { λ r. ⌜ FieldsSay (now (file .entry)) r ⌝ }
 {
     if file.len() < 64 {
@@ -115,23 +120,38 @@ fn check_fields(file: &[u8]) -> Fields
     Fields::Fine
 }
 
-// The size word, which follows the key/value bytes; how many these are stands at 60.
+// How many levels the file says that it holds, by the field at 56: none means one.
+pub fn level_count(file: &[u8]) -> u32
+    ensures { λ r. ⌜ (r ≡ levelCount (now (file .entry))) × (r < 4294967296) ⌝ }
+{
+    let levels = files::u32_at(file, 56);
+    if levels == 0 { 1 } else { levels }
+}
+
+// Where the key/value bytes end; how many these are stands at 60. A size word follows.
+pub fn size_place(file: &[u8]) -> usize
+    ensures { λ r. ⌜ (r ≡ sizePlace (now (file .entry))) × (r < 4294967360) ⌝ }
+{
+    64 + (files::u32_at(file, 60) as usize)
+}
+
+// The size word.
 fn size_word(file: &[u8]) -> u32
     ensures { λ r. ⌜ (r ≡ sizeWord (now (file .entry))) × (r < 4294967296) ⌝ }
 {
-    let skipped = files::u32_at(file, 60) as usize;
-    files::u32_at(file, 64 + skipped)
+    files::u32_at(file, size_place(file))
 }
 
-// The plate that the fields describe: the internal format at 28, the width at 36, the height at 40, key/value bytes at 60.
-fn stored_plate(file: &[u8]) -> Stored
+// The plate that the fields describe: the internal format at 28, the width at 36, the height at 40.
+pub fn stored_plate(file: &[u8]) -> Stored
     ensures { λ r. ⌜ r ≡ ktxPlate (now (file .entry)) ⌝ }
 {
     let format = files::u32_at(file, 28);
     let width = files::u32_at(file, 36) as usize;
     let height = files::u32_at(file, 40) as usize;
-    let skipped = files::u32_at(file, 60) as usize;
-    let payload = 64 + skipped + 4;
+    let place = size_place(file);
+    let skipped = place - 64;
+    let payload = place + 4;
     Stored {
         width: width,
         height: height,

@@ -13,7 +13,7 @@ use Rattle.files.specs.Fields.{u32At}
 use Rattle.files.proofs.Answers.{SameSays}
 use Rattle.files.proofs.Fields.{field-kept}
 use Rattle.files.proofs.Starts.{same-start}
-use Rattle.pvr.specs.Header.{version, headerSize, pixelFormat, widthField, heightField, metadataSize, payloadOffset}
+use Rattle.pvr.specs.Header.{version, headerSize, pixelFormat, widthField, heightField, levelsField, metadataSize, payloadOffset}
 use Rattle.pvr.specs.Header.{shortHeader, notPvr, countChecks, headerRefusal, HeaderRead}
 use Rattle.pvr.specs.Reading.{pvrSays}
 use Rattle.pvr.specs.NoEffect.{hasNoEffect, SameHeader}
@@ -40,6 +40,9 @@ module _ {f g : List ℕ} (s : SameHeader f g) where
 
   pub same-height : heightField f ≡ heightField g
   same-height = field 24 (omega arith) tt
+
+  pub same-levels : levelsField f ≡ levelsField g
+  same-levels = field 44 (omega arith) tt
 
   pub same-payload : payloadOffset f ≡ payloadOffset g
   same-payload = ap (λ (n : ℕ). headerSize + n) (field 48 (omega arith) tt)

@@ -2,7 +2,7 @@
 use mathlib.Core.Path.{_≡_, refl, sym, ap, _∙_}
 use mathlib.Core.Bool.{cond}
 use mathlib.Core.List.{List}
-use Prim.Native.Nat.{ℕ}
+use Prim.Native.Nat.{ℕ, _≤_}
 use native.Mathlib.Omega.{arith}
 use lib.Dec.{eqb}
 use Rattle.files.proofs.Fields.{same-depth}
@@ -14,13 +14,13 @@ use Rattle.pvr.specs.Header.{numberOf, headerNumber, headerWidth, header
 use Rattle.pvr.proofs.Answers.{number-above}
 
 -- a refusal's number tells which it is
-ofNumber : ℕ → HeaderRefusal
+pub ofNumber : ℕ → HeaderRefusal
 ofNumber n =
     cond (eqb n 11) ShortHeader
     (cond (eqb n 12) NotPvr
     (cond (eqb n 13) UnknownFormat (cond (eqb n 14) DepthNotOne (cond (eqb n 15) SurfacesNotOne (cond (eqb n 16) FacesNotOne NoLevel)))))
 
-back : (f : HeaderRefusal) → ofNumber (numberOf f) ≡ f
+pub back : (f : HeaderRefusal) → ofNumber (numberOf f) ≡ f
 unfolding ofNumber
 back ShortHeader = refl
 back NotPvr = refl
@@ -32,6 +32,16 @@ back NoLevel = refl
 
 pub same-refusal : (f g : HeaderRefusal) → numberOf f ≡ numberOf g → f ≡ g
 same-refusal f g e = sym (back f) ∙ ap ofNumber e ∙ back g
+
+-- it is 11 to 17
+pub from-11 : (f : HeaderRefusal) → (11 ≤ numberOf f) × (numberOf f ≤ 17)
+from-11 ShortHeader = omega arith
+from-11 NotPvr = omega arith
+from-11 UnknownFormat = omega arith
+from-11 DepthNotOne = omega arith
+from-11 SurfacesNotOne = omega arith
+from-11 FacesNotOne = omega arith
+from-11 NoLevel = omega arith
 
 -- answers with the same number and the same values are the same
 pub same-header : (r s : Header) → headerNumber r ≡ headerNumber s → headerWidth r ≡ headerWidth s → headerHeight r ≡ headerHeight s

@@ -1,7 +1,8 @@
 // The header of a PVR version 3 file.
 ghost use mathlib.Core.Path.{_≡_};
+ghost use Prim.Native.Nat.{_<_};
 ghost use Rattle.files.specs.Reading.{readingOf};
-ghost use Rattle.pvr.specs.Header.{numberOf, HeaderRead};
+ghost use Rattle.pvr.specs.Header.{levelsField, payloadOffset, numberOf, HeaderRead};
 ghost use Rattle.pvr.specs.Inner.{CountsSay};
 ghost use Rattle.pvr.specs.Reading.{pvrSays};
 use files::Reading;
@@ -73,6 +74,20 @@ fn check_counts(file: &[u8]) -> Counts
     Counts::OnePlate
 }
 
+// How many levels the file says that it holds, by the field at 44.
+pub fn level_count(file: &[u8]) -> u32
+    ensures { λ r. ⌜ (r ≡ levelsField (now (file .entry))) × (r < 4294967296) ⌝ }
+{
+    files::u32_at(file, 44)
+}
+
+// Where the first level starts: behind the metadata, whose size stands at 48.
+pub fn payload_offset(file: &[u8]) -> usize
+    ensures { λ r. ⌜ (r ≡ payloadOffset (now (file .entry))) × (r < 4294967348) ⌝ }
+{
+    52 + (files::u32_at(file, 48) as usize)
+}
+
 // The sizes, the depth and the payload offset of the plate that a file holds, or the first refusal whose condition holds.
 pub fn read_header(file: &[u8]) -> Header
     ensures { λ r. ⌜ HeaderRead (now (file .entry)) r ⌝ }
@@ -93,12 +108,11 @@ pub fn read_header(file: &[u8]) -> Header
     }
     let width = files::u32_at(file, 28) as usize;
     let height = files::u32_at(file, 24) as usize;
-    let payload = 52 + (files::u32_at(file, 48) as usize);
     Header::Plate {
         width: width,
         height: height,
         is2bpp: format < 2,
-        payload: payload,
+        payload: payload_offset(file),
     }
 }
 

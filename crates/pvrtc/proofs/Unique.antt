@@ -35,7 +35,7 @@ pub number-small : (f : Refusal) → numberOf f ≤ 6
 number-small f = number-range f .1
 
 -- and tells which it is
-ofNumber : ℕ → Refusal
+pub ofNumber : ℕ → Refusal
 ofNumber zero = Outside
 ofNumber (suc zero) = ZeroSide
 ofNumber (suc (suc zero)) = LargeSide
@@ -44,7 +44,7 @@ ofNumber (suc (suc (suc (suc zero)))) = ShortImage
 ofNumber (suc (suc (suc (suc (suc zero))))) = NotPowerOfTwo
 ofNumber (suc (suc (suc (suc (suc (suc n)))))) = Outside
 
-back : (f : Refusal) → ofNumber (numberOf f) ≡ f
+pub back : (f : Refusal) → ofNumber (numberOf f) ≡ f
 unfolding ofNumber
 back ZeroSide = refl
 back LargeSide = refl

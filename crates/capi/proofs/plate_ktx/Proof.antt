@@ -20,6 +20,9 @@ refused-field-requires c κs = search needs
 enum-known-header-2 : tie.Need-enum-known-header-2
 enum-known-header-2 c = search needs
 
+cast-sized-field : tie.Need-cast-sized-field
+cast-sized-field c = search needs
+
 sized-field-requires : tie.Need-sized-field-requires
 sized-field-requires c κs = search needs
 
@@ -46,6 +49,7 @@ plate-ktx-spec =
     header-refusal-number-requires
     refused-field-requires
     enum-known-header-2
+    cast-sized-field
     sized-field-requires
     returns
     returns-2)

@@ -7,34 +7,30 @@ use Rattle.convert.proofs.Either.{as-ktx, as-pvr}
 use Rattle.convert.proofs.read_file.Statement.{statement}
 use Rattle.convert.proofs.read_file.Tie as tie
 
-slice-aggregate-starts-with : tie.Need-slice-aggregate-starts-with
-slice-aggregate-starts-with c = search needs
-
-starts-with-requires : tie.Need-starts-with-requires
-starts-with-requires c κs = search needs
+is-ktx-requires : tie.Need-is-ktx-requires
+is-ktx-requires c κs = search needs
 
 read-plate-requires : tie.Need-read-plate-requires
 read-plate-requires c κs = search needs
 
 returns : tie.Need-returns
 returns c =
-    let file = now (c .before .before .before .before .before .args .file) in
-    c .read-plate .ensures ∙ sym (ap readingOf (as-ktx file (sym (c .before .before .starts-with .ensures) ∙ c .before .if1 .taken)))
+    let file = now (c .before .before .before .before .args .file) in
+    c .read-plate .ensures ∙ sym (ap readingOf (as-ktx file (sym (c .before .before .is-ktx .ensures) ∙ c .before .if1 .taken)))
 
 read-plate-requires-2 : tie.Need-read-plate-requires-2
 read-plate-requires-2 c κs = search needs
 
 returns-2 : tie.Need-returns-2
 returns-2 c =
-    let file = now (c .before .before .before .before .before .args .file) in
-    c .read-plate2 .ensures ∙ sym (ap readingOf (as-pvr file (sym (c .before .before .starts-with .ensures) ∙ c .before .if1 .left)))
+    let file = now (c .before .before .before .before .args .file) in
+    c .read-plate2 .ensures ∙ sym (ap readingOf (as-pvr file (sym (c .before .before .is-ktx .ensures) ∙ c .before .if1 .left)))
 
 pub read-file-spec : {M : Type 1} → statement M
 read-file-spec =
     tie.close
     (tie.spec
-    slice-aggregate-starts-with
-    starts-with-requires
+    is-ktx-requires
     read-plate-requires
     returns
     read-plate-requires-2

@@ -1,12 +1,12 @@
 -- `pvr::read_header` meets its contract: the checks are made in their order, and past the last the fields are those of the definition. Assumes nothing.
 use mathlib.Core.Bool.{not}
 use mathlib.Core.Path.{_≡_, sym, ap, _∙_}
-use Prim.Native.Nat.{ℕ, _+_}
+use Prim.Native.Nat.{ℕ}
 use denote.Ref.{now}
 use lib.Dec.{ltb}
 use borrow.Author.Needs.{needs}
 use borrow.Author.Tests.{lt-ltb, le-ltb}
-use Rattle.pvr.specs.Header.{headerSize, headerRefusal}
+use Rattle.pvr.specs.Header.{headerRefusal}
 use Rattle.pvr.specs.Inner.{countsNumber}
 use Rattle.pvr.proofs.Answers.{by-refusal, by-plate}
 use Rattle.facts.proofs.Order.{holds-here, holds-later}
@@ -75,14 +75,8 @@ u32-at-requires-2 c κs = search needs
 cast-height : tie.Need-cast-height
 cast-height c = search needs
 
-u32-at-requires-3 : tie.Need-u32-at-requires-3
-u32-at-requires-3 c κs = search needs
-
-cast-payload : tie.Need-cast-payload
-cast-payload c = search needs
-
-add-payload : tie.Need-add-payload
-add-payload c = search needs
+payload-offset-requires : tie.Need-payload-offset-requires
+payload-offset-requires c κs = search needs
 
 returns-5 : tie.Need-returns-5
 returns-5 c =
@@ -94,7 +88,7 @@ returns-5 c =
       width = c .before .before .u32-at .ensures .0;
       height = c .before .u32-at2 .ensures .0;
       depth = ap (λ (n : ℕ). ltb n 2) (counts .before .before .u64-at .ensures);
-      payload = ap (λ (n : ℕ). headerSize + n) (c .u32-at3 .ensures .0);
+      payload = c .payload-offset .ensures .0;
     })
 
 pub read-header-spec : {M : Type 1} → statement M
@@ -115,7 +109,5 @@ read-header-spec =
     cast-width
     u32-at-requires-2
     cast-height
-    u32-at-requires-3
-    cast-payload
-    add-payload
+    payload-offset-requires
     returns-5)

@@ -1,9 +1,15 @@
 -- `ktx::reader::stored_plate` meets its contract. Assumes nothing.
-use mathlib.Core.Path.{refl, ap, _∙_}
+use mathlib.Core.Path.{_≡_, refl, ap, _∙_}
+use Prim.Native.Nat.{ℕ, _+_, _-_}
+use native.Mathlib.Omega.{arith}
 use borrow.Author.Needs.{needs}
-use Rattle.ktx.specs.Header.{hasTwoBits}
+use Rattle.ktx.specs.Header.{headerSize, hasTwoBits}
 use Rattle.ktx.proofs.reader.stored_plate.Statement.{statement}
 use Rattle.ktx.proofs.reader.stored_plate.Tie as tie
+
+-- the key/value bytes are what stands before the size word's place and behind the header
+before-place : (n : ℕ) → headerSize + n - 64 ≡ n
+before-place n = omega arith
 
 u32-at-requires : tie.Need-u32-at-requires
 u32-at-requires c κs = search needs
@@ -20,17 +26,14 @@ u32-at-requires-3 c κs = search needs
 cast-height : tie.Need-cast-height
 cast-height c = search needs
 
-u32-at-requires-4 : tie.Need-u32-at-requires-4
-u32-at-requires-4 c κs = search needs
+size-place-requires : tie.Need-size-place-requires
+size-place-requires c κs = search needs
 
-cast-skipped : tie.Need-cast-skipped
-cast-skipped c = search needs
+sub-skipped : tie.Need-sub-skipped
+sub-skipped c = omega (arith, c .size-place .ensures .0)
 
 add-payload : tie.Need-add-payload
 add-payload c = search needs
-
-add-payload-2 : tie.Need-add-payload-2
-add-payload-2 c = search needs
 
 is-2bpp-requires : tie.Need-is-2bpp-requires
 is-2bpp-requires c κs = search needs
@@ -42,9 +45,9 @@ returns : tie.Need-returns
 returns c =
     let width = c .before .before .before .before .u32-at2 .ensures .0 in
     let height = c .before .before .before .u32-at3 .ensures .0 in
-    let skipped = c .before .before .u32-at4 .ensures .0 in
+    let place = c .before .before .size-place .ensures .0 in
     let two = c .before .is-2bpp .ensures ∙ ap hasTwoBits (c .before .before .before .before .before .u32-at .ensures .0) in
-    rw (width, height, two, skipped, c .size-word .ensures .0) refl
+    rw (width, height, two, place, before-place, c .size-word .ensures .0) refl
 
 pub stored-plate-spec : {M : Type 1} → statement M
 stored-plate-spec =
@@ -55,10 +58,9 @@ stored-plate-spec =
     cast-width
     u32-at-requires-3
     cast-height
-    u32-at-requires-4
-    cast-skipped
+    size-place-requires
+    sub-skipped
     add-payload
-    add-payload-2
     is-2bpp-requires
     size-word-requires
     returns)

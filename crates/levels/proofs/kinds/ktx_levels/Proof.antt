@@ -1,0 +1,73 @@
+-- `levels::kinds::ktx_levels` meets its contract. Assumes nothing.
+use mathlib.Core.Bool.{Bool}
+use mathlib.Core.Path.{_≡_, sym, ap, _∙_}
+use Prim.Native.Nat.{ℕ}
+use denote.Ref.{now}
+use lib.Dec.{ltb}
+use lib.ListN.{length}
+use borrow.Author.Needs.{needs}
+use borrow.Author.Tests.{lt-ltb, le-ltb}
+use Rattle.levels.proofs.Answers.{ktx-refused, ktx-cut, ktx-found}
+use Rattle.levels.proofs.kinds.ktx_levels.Statement.{statement}
+use Rattle.levels.proofs.kinds.ktx_levels.Tie as tie
+
+check-fields-requires : tie.Need-check-fields-requires
+check-fields-requires c κs = search needs
+
+enum-known-fields : tie.Need-enum-known-fields
+enum-known-fields c = search needs
+
+returns : tie.Need-returns
+returns c =
+    ktx-refused (now (c .before .before .before .before .before .args .file)) (c .before .before .before .check-fields .ensures)
+    (c .before .fields .given .1)
+
+enum-told : tie.Need-enum-told
+enum-told c = search needs
+
+size-place-requires : tie.Need-size-place-requires
+size-place-requires c κs = search needs
+
+-- the key/value bytes end at the size word's place
+cut-at : {t : Bool} (len : ℕ) {place start : ℕ} → start ≡ place → ltb len start ≡ t → ltb len place ≡ t
+cut-at len e q = rw (← e) q
+
+returns-2 : tie.Need-returns-2
+returns-2 c =
+    let k = c .before in
+    let file = now (k .before .before .before .before .before .args .file) in
+    ktx-cut file (k .before .before .before .check-fields .ensures) (k .before .enum-told .given .1)
+    (cut-at (length file) (k .size-place .ensures .0) (lt-ltb _ _ (c .if1 .taken)))
+
+stored-plate-requires : tie.Need-stored-plate-requires
+stored-plate-requires c κs = search needs
+
+level-count-requires : tie.Need-level-count-requires
+level-count-requires c κs = search needs
+
+cast-count : tie.Need-cast-count
+cast-count c = search needs
+
+returns-3 : tie.Need-returns-3
+returns-3 c =
+    let past = c .before .before in
+    let k = past .before in
+    let file = now (k .before .before .before .before .before .args .file) in
+    ktx-found file (k .before .before .before .check-fields .ensures) (k .before .enum-told .given .1)
+    (cut-at (length file) (k .size-place .ensures .0) (le-ltb _ _ (past .if1 .left))) (c .before .stored-plate .ensures)
+    (c .level-count .ensures .0) (k .size-place .ensures)
+
+pub ktx-levels-spec : {M : Type 1} → statement M
+ktx-levels-spec =
+    tie.close
+    (tie.spec
+    check-fields-requires
+    enum-known-fields
+    returns
+    enum-told
+    size-place-requires
+    returns-2
+    stored-plate-requires
+    level-count-requires
+    cast-count
+    returns-3)

@@ -1,0 +1,5 @@
+pub mod Calls
+pub mod Inner
+pub mod Levels
+pub mod Ranges
+pub mod Refusals
