@@ -1,3 +1,4 @@
+pub mod Alike
 pub mod Counted
 pub mod Damage
 pub mod Gathered
@@ -9,6 +10,7 @@ pub mod LocalCalls
 pub mod LocalFiles
 pub mod Member
 pub mod Modes
+pub mod Needed
 pub mod NoEffect
 pub mod Numbers
 pub mod Orders

@@ -37,18 +37,18 @@ use Rattle.demands.proofs.Program.{block-accepted, is-tga, tga-word}
 use Rattle.demands.proofs.Seen.{seen, moved-block, decoded-block}
 
 -- data that differs in one block alone gives texels that differ in its rectangle alone
-only-near : (p : Picture) (d d' : List ℕ) (z : ℕ) → SameOutside (blocksOf p) d d' z → OnlyNear p d d' z
+pub only-near : (p : Picture) (d d' : List ℕ) (z : ℕ) → SameOutside (blocksOf p) d d' z → OnlyNear p d d' z
 only-near p d d' z same x y v w a b differ =
     let s = seen p d x y v a in
     local-pictures p (s .call) d (passed p (s .call) (length d) (s .ok)) .only x y z v w d d' same a b differ
 
 module _ {start : ℕ} {f g : List ℕ} {z : ℕ} (s : DamagedAt start f g z) where
   -- what stands in front of the data is the same
-  in-front : (i : ℕ) → i < start → getD f i 0 ≡ getD g i 0
+  pub in-front : (i : ℕ) → i < start → getD f i 0 ≡ getD g i 0
   in-front i h = s .before i (omega arith)
 
   -- and so is every other block of it
-  other-blocks : (n : ℕ) → SameOutside n (drop start f) (drop start g) z
+  pub other-blocks : (n : ℕ) → SameOutside n (drop start f) (drop start g) z
   other-blocks n b l other k h =
       getD-drop start f (8 * b + k) 0
       ∙ ⊎-elim

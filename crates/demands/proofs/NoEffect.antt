@@ -70,7 +70,7 @@ same-program f g says same-data =
     }
 
 -- what lies past a PVR header has an effect
-past-header : (i : ℕ) → headerSize ≤ i → hasNoEffect i ≡ false
+pub past-header : (i : ℕ) → headerSize ≤ i → hasNoEffect i ≡ false
 past-header i h =
     let low : (n : ℕ) → n ≤ headerSize → leb n i ≡ true = λ n l. le-leb n i (omega arith) in
     let high : (n : ℕ) → n ≤ headerSize → ltb i n ≡ false = λ n l. le-ltb i n (omega arith) in

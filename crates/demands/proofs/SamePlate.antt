@@ -1,12 +1,11 @@
 -- A KTX plate decodes as the same payload does from PVR. Assumes nothing.
 use mathlib.Core.Path.{_≡_, refl, sym, ap, subst, _∙_}
 use mathlib.Core.Bool.{Bool, true, false, not}
-use mathlib.Core.List.{List, [], _∷_, _++_}
-use Prim.Native.Nat.{ℕ, _*_, _/_, _%_, _≤_, _<_}
+use mathlib.Core.List.{List, [], _∷_}
+use Prim.Native.Nat.{ℕ, _*_, _/_, _%_, _≤_}
 use native.Mathlib.Omega.{arith}
 use lib.Dec.{eqb}
-use lib.ListN.{length, getD, take, drop, take-append-drop}
-use lib.Seq.{ext-getD, getD-take, length-take-le}
+use lib.ListN.{length, drop}
 use borrow.Author.Tests.{eqb-true, eqb-false, eq-eqb, le-ltb}
 use Rattle.facts.specs.Checks.{Check, check, firstOf}
 use Rattle.facts.proofs.Checks.{none-said, neither-said}
@@ -18,64 +17,21 @@ use Rattle.ktx.specs.Header as ktx
 use Rattle.ktx.specs.Reading.{ktxSays}
 use Rattle.ktx.specs.Picture as ktx-picture
 use Rattle.ktx.proofs.Whole.{as-block, of-block}
-use Rattle.pvrtc.specs.Calls.{refusal, BlockDecoded}
+use Rattle.pvrtc.specs.Calls.{BlockDecoded}
 use Rattle.pvrtc.specs.Picture.{pictureTexel}
 use Rattle.pvrtc.specs.Refusals.{need, zeroSide, shortData, gridChecks}
-use Rattle.pvrtc.specs.declared.Call.{Call}
 use Rattle.pvrtc.specs.declared.Call.the-variants.{Block}
 use Rattle.pvrtc.specs.declared.Decoded.{Decoded}
 use Rattle.pvrtc.specs.declared.Picture.{Picture}
-use Rattle.pvrtc.proofs.Past.{refusal-past, picture-past}
 use Rattle.convert.specs.Output.{saysOf, headerRefusal, storedIn, pictureOf, plateOf, levelData, longSkipped, longSide, largeNeed, otherSize}
 use Rattle.convert.specs.Output.{skippedLimit, ownChecks, programRefusal, refusedLine, tga, output}
 use Rattle.convert.proofs.Answers.{tga-same, written-line}
 use Rattle.convert.proofs.Either.{as-ktx, as-pvr}
 use Rattle.convert.proofs.Said.{header-first}
 use Rattle.demands.specs.SamePlate.{SamePlate, SameAnswers}
-use Rattle.demands.proofs.Past.{nothing-past}
+use Rattle.demands.proofs.Needed.{block-there, texel-there}
 use Rattle.demands.proofs.Program.{block-accepted, is-tga}
 use Rattle.demands.proofs.Seen.{moved-block}
-
--- data of two runs that agree in the bytes that a picture needs
-module _ (p : Picture) (d e : List ℕ) (hd : need p ≤ length d) (he : need p ≤ length e)
-    (same : (i : ℕ) → i < need p → getD d i 0 ≡ getD e i 0) where
-  abbrev front : List ℕ → List ℕ
-  front l = take (need p) l
-
-  size-d : length (front d) ≡ need p
-  size-d = length-take-le (need p) d hd
-
-  size-e : length (front e) ≡ need p
-  size-e = length-take-le (need p) e he
-
-  fronts : front d ≡ front e
-  fronts =
-      ext-getD 0 (front d) (front e) (size-d ∙ sym size-e)
-      (λ i l. let h : i < need p = omega (arith, size-d) in getD-take (need p) d i 0 h ∙ same i h ∙ sym (getD-take (need p) e i 0 h))
-
--- a call on a run is the call on its needed bytes
-module _ (p : Picture) (d : List ℕ) (h : need p ≤ length d) where
-  whole : take (need p) d ++ drop (need p) d ≡ d
-  whole = take-append-drop (need p) d
-
-  enough : need p ≤ length (take (need p) d)
-  enough = omega (arith, length-take-le (need p) d h)
-
-  refusal-front : (c : Call) → refusal p c d ≡ refusal p c (take (need p) d)
-  refusal-front c = sym (ap (refusal p c) whole) ∙ refusal-past p (take (need p) d) (drop (need p) d) enough c
-
-  texel-front : (c : Call) → refusal p c d ≡ 0 → (x y : ℕ) → pictureTexel p d x y ≡ pictureTexel p (take (need p) d) x y
-  texel-front c ok x y =
-      sym (ap (λ (l : List ℕ). pictureTexel p l x y) whole)
-      ∙ picture-past p (take (need p) d) (drop (need p) d) enough c (sym (refusal-front c) ∙ ok) x y
-
-  to-front : {old new : List ℕ} {r : Decoded} → BlockDecoded p d old new r → BlockDecoded p (take (need p) d) old new r
-  to-front {old} {new} {r} b =
-      nothing-past p (take (need p) d) (drop (need p) d) enough .block old new r .1 (subst (λ (l : List ℕ). BlockDecoded p l old new r) (sym whole) b)
-
-  from-front : {old new : List ℕ} {r : Decoded} → BlockDecoded p (take (need p) d) old new r → BlockDecoded p d old new r
-  from-front {old} {new} {r} b =
-      subst (λ (l : List ℕ). BlockDecoded p l old new r) whole (nothing-past p (take (need p) d) (drop (need p) d) enough .block old new r .0 b)
 
 -- what is still asked of a plate that skips little, is not cut, says no other size and has its data
 abbrev restChecks : Picture → List Check
@@ -135,31 +91,17 @@ module _ {f g : List ℕ} (s : SamePlate f g) where
   same-number : programRefusal f ≡ programRefusal g
   same-number = f-number ∙ ap (λ (p : Picture). firstOf (restChecks p)) (s .plate) ∙ sym g-number
 
-  -- the needed bytes of f's data and of g's
-  same-fronts : take (need (plateOf f)) (levelData f) ≡ take (need (plateOf f)) (levelData g)
-  same-fronts = fronts (plateOf f) (levelData f) (levelData g) (s .pvr-data) (s .ktx-data) (s .payload)
-
   there : {old new : List ℕ} {r : Decoded} → BlockDecoded (plateOf f) (levelData f) old new r → BlockDecoded (plateOf f) (levelData g) old new r
-  there b =
-      from-front (plateOf f) (levelData g) (s .ktx-data)
-      (moved-block {p = plateOf f} refl same-fronts (to-front (plateOf f) (levelData f) (s .pvr-data) b))
+  there = block-there (plateOf f) (levelData f) (levelData g) (s .pvr-data) (s .ktx-data) (s .payload)
 
   back : {old new : List ℕ} {r : Decoded} → BlockDecoded (plateOf f) (levelData g) old new r → BlockDecoded (plateOf f) (levelData f) old new r
-  back b =
-      from-front (plateOf f) (levelData f) (s .pvr-data)
-      (moved-block {p = plateOf f} refl (sym same-fronts) (to-front (plateOf f) (levelData g) (s .ktx-data) b))
+  back = block-there (plateOf f) (levelData g) (levelData f) (s .ktx-data) (s .pvr-data) (λ i h. sym (s .payload i h))
 
   -- where f's picture is written, each of its texels is that of g's data
   same-texel : programRefusal f ≡ 0 → (x y : ℕ) → pictureTexel (plateOf f) (levelData f) x y ≡ pictureTexel (plateOf f) (levelData g) x y
-  same-texel none x y =
-      let p : Picture = plateOf f in
-      let c : Call = Block (p .width * p .height) in
-      let ok : refusal p c (levelData f) ≡ 0 = block-accepted f none in
-      let same : refusal p c (levelData g) ≡ refusal p c (levelData f) =
-      refusal-front p (levelData g) (s .ktx-data) c ∙ sym (ap (refusal p c) same-fronts) ∙ sym (refusal-front p (levelData f) (s .pvr-data) c) in
-      texel-front p (levelData f) (s .pvr-data) c ok x y
-      ∙ ap (λ (d : List ℕ). pictureTexel p d x y) same-fronts
-      ∙ sym (texel-front p (levelData g) (s .ktx-data) c (same ∙ ok) x y)
+  same-texel none =
+      texel-there (plateOf f) (levelData f) (levelData g) (s .pvr-data) (s .ktx-data) (s .payload) (Block (plateOf f .width * plateOf f .height))
+      (block-accepted f none)
 
   same-written : (t : Bool) → eqb (programRefusal f) 0 ≡ t → output f ≡ output g
   same-written true e =

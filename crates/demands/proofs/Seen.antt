@@ -21,10 +21,14 @@ use Rattle.pvrtc.specs.declared.Picture.{Picture}
 use Rattle.pvrtc.specs.declared.Texel.the-variants.{Word}
 use Rattle.pvrtc.proofs.Accepted.{Accepted, accepted, texel-inside, row-inside}
 use Rattle.pvrtc.proofs.Agree.{row-is, block-is}
+use Rattle.levels.specs.Calls.{LevelDecoded}
+use Rattle.levels.specs.Levels as level
+use Rattle.levels.specs.declared.Decoded.the-variants as level-answer
+use Rattle.levels.proofs.Whole.{as-block as level-block}
 use Rattle.capi.specs.Plate.{texelAnswer, Wrote}
 use Rattle.capi.proofs.Answers.{number-back, value-back}
 use Rattle.convert.specs.Output.{plateOf, levelData, programRefusal, output}
-use Rattle.demands.specs.Right.{placeIn, Gives, by-texel, by-row, by-block, by-c-texel, by-c-row, by-c-picture, by-ktx, by-c-ktx, by-program}
+use Rattle.demands.specs.Right.{placeIn, Gives, by-texel, by-row, by-block, by-c-texel, by-c-row, by-c-picture, by-ktx, by-c-ktx, by-level, by-c-level, by-program}
 use Rattle.demands.proofs.Program.{block-accepted, is-tga, tga-texel}
 
 -- a texel of an accepted picture, and its word
@@ -95,6 +99,10 @@ module _ (p : Picture) (d : List ℕ) (x y v : ℕ) where
   of-ktx file old ep ed w hx hy q =
       of-block (moved-block ep ed (decoded-block file w)) hx hy q
 
+  of-level : (file : List ℕ) (k : ℕ) (old new : List ℕ) → level.pictureOf file k ≡ p → level.levelData file k ≡ d
+      → LevelDecoded file k old new level-answer.Done → x < p .width → y < p .height → v ≡ getD new (placeIn p x y) 0 → Seen p d x y v
+  of-level file k old new ep ed w hx hy q = of-block (moved-block ep ed (level-block file k w)) hx hy q
+
   of-program : (file : List ℕ) → plateOf file ≡ p → levelData file ≡ d → programRefusal file ≡ 0 → x < p .width → y < p .height
       → v ≡ u32At (output file) (18 + 4 * placeIn p x y) → Seen p d x y v
   of-program file ep ed none hx hy q =
@@ -116,4 +124,6 @@ module _ (p : Picture) (d : List ℕ) (x y v : ℕ) where
   seen (by-c-picture old new w hx hy q) = of-block (of-wrote w) hx hy q
   seen (by-ktx file old new ep ed w hx hy q) = of-ktx file old ep ed w hx hy q
   seen (by-c-ktx file old new ep ed w hx hy q) = of-ktx file old ep ed (record { number = w .number; words = w .words }) hx hy q
+  seen (by-level file k old new ep ed w hx hy q) = of-level file k old new ep ed w hx hy q
+  seen (by-c-level file k old new ep ed w hx hy q) = of-level file k old new ep ed (record { number = w .number; words = w .words }) hx hy q
   seen (by-program file ep ed none hx hy q) = of-program file ep ed none hx hy q

@@ -29,12 +29,16 @@ use Rattle.ktx.specs.Picture.{plateOf, levelData, pictureChecks, pictureRefusal
 use Rattle.ktx.proofs.Answers as ktx-header
 use Rattle.ktx.proofs.Unique as ktx
 use Rattle.ktx.proofs.Whole.{call-decides, header-accepted, size-fits}
+use Rattle.levels.specs.Levels.{pictureOf, levelData as dataOfLevel}
+use Rattle.levels.specs.Refusals.{levelChecks, decodeChecks, decodeRefusal}
+use Rattle.levels.proofs.Unique as one-level
+use Rattle.levels.proofs.Whole as level
 use Rattle.capi.proofs.Answers.{number-back, value-back}
 use Rattle.convert.specs.Output as output
 use Rattle.convert.specs.Output.{programRefusal}
 use Rattle.convert.proofs.Answers.{written-line, written-tga}
 use Rattle.convert.proofs.Said as program
-use Rattle.demands.specs.Total.{OneOutcome, TexelOutcome, WordsOutcome, rowTexels, pictureTexels, Total, TotalFile, TotalKtx}
+use Rattle.demands.specs.Total.{OneOutcome, TexelOutcome, WordsOutcome, rowTexels, pictureTexels, Total, TotalFile, TotalKtx, TotalLevel}
 
 pub one-outcome : OneOutcome
 one-outcome =
@@ -45,6 +49,8 @@ one-outcome =
       pvr-header = pvr.one-header;
       ktx-header = ktx.one-header;
       ktx-picture = λ file old new new' r s. ktx.one-decoded;
+      level = one-level.one-described;
+      level-picture = λ file k old new new' r s. one-level.one-decoded;
     }
 
 -- a number and a word that the promise of a texel call determines
@@ -135,4 +141,25 @@ module _ (file : List ℕ) where
         c-header = exactly-when (ktx-spec.headerChecks file);
         picture = λ old new r w. words-outcome (pictureChecks file (length old)) texels _ (ktx-front old) (w .number) (w .words);
         c-picture = λ old new n w. words-outcome (pictureChecks file (length old)) texels _ (ktx-front old) (w .number) (w .words);
+      }
+
+-- a level that is decoded: the block call on its data is accepted
+module _ (file : List ℕ) (k : ℕ) where
+  abbrev ofLevel : List ℕ
+  ofLevel = pictureTexels (pictureOf file k) (dataOfLevel file k)
+
+  level-front : (old : List ℕ) → decodeRefusal file k (length old) ≡ 0
+      → painted 0 (pictureOf file k .width) (pictureOf file k .width) (pictureOf file k .height) (pictureTexel (pictureOf file k) (dataOfLevel file k)) old
+      ≡ ofLevel ++ drop (length ofLevel) old
+  level-front old e =
+      let room = length old in
+      block-front (pictureOf file k) (dataOfLevel file k) old (sym (level.call-decides file k (level.level-accepted file k room e) room) ∙ e)
+
+  pub total-level : TotalLevel file k
+  total-level =
+      record {
+        description = λ r read n h. rw (read .number) (exactly-when (levelChecks file k) n h);
+        c-description = exactly-when (levelChecks file k);
+        picture = λ old new r w. words-outcome (decodeChecks file k (length old)) ofLevel _ (level-front old) (w .number) (w .words);
+        c-picture = λ old new n w. words-outcome (decodeChecks file k (length old)) ofLevel _ (level-front old) (w .number) (w .words);
       }

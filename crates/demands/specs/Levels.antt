@@ -1,9 +1,9 @@
 -- The levels of a file beside one another, and level 0 beside the plate. Assumes nothing: these are definitions.
 use mathlib.Core.Path.{_≡_}
 use mathlib.Core.Bool.{Bool, true, false, cond, _&&_, _||_}
-use mathlib.Core.List.{List, _++_}
+use mathlib.Core.List.{List}
 use mathlib.Core.Logic.{_↔_}
-use Prim.Native.Nat.{ℕ, suc, _+_, _*_, _≤_, _<_}
+use Prim.Native.Nat.{ℕ, _+_, _*_, _≤_, _<_}
 use lib.Dec.{ltb, leb}
 use lib.ListN.{length, getD}
 use Rattle.facts.specs.Checks.{firstOf}
@@ -22,6 +22,7 @@ use Rattle.levels.specs.Refusals.{headerChecks, mostLevels, levelRefusal, decod
 use Rattle.levels.specs.declared.Decoded.{Decoded}
 use Rattle.levels.specs.declared.Decoded.the-variants.{Done}
 use Rattle.levels.specs.declared.Described.{Described}
+use Rattle.levels.specs.declared.Levels.{Levels}
 use Rattle.pvrtc.specs.Refusals.{sizeChecks}
 use Rattle.capi.specs.Level.{levelField, WroteLevel}
 use Rattle.convert.specs.Output as program
@@ -37,11 +38,11 @@ pub record Placing : Type 0 where
   pub ranges : (file : List ℕ) → FileRanges file
   -- Sides are halved k times, rounded down, never below 1.
   pub halving : Halving
-  -- Where describing a level gets past 1 and 2, 20 is said exactly when there are more levels than halvings down to 1 × 1 allow, counting the first:
-  -- the last level that is allowed is 1 × 1, and no earlier one is.
-  pub past-sides : (file : List ℕ) → firstOf (headerChecks file ++ sizeChecks (plateIn (levelsIn file))) ≡ 0 → Allowed (levelsIn file)
-  pub too-many : (file : List ℕ) (k : ℕ) → (levelRefusal file k ≡ 20)
-      ↔ ((firstOf (headerChecks file ++ sizeChecks (plateIn (levelsIn file))) ≡ 0) × (mostLevels (levelsIn file) < levelsIn file .count))
+  -- Past the header and the sides, 20 is said exactly when there are more levels than halvings down to 1 × 1 allow, counting the first: the last
+  -- level that is allowed is 1 × 1, and no earlier one is.
+  pub too-many : (file : List ℕ) (k : ℕ) → let l = levelsIn file in
+      (levelRefusal file k ≡ 20) ↔ ((firstOf (headerChecks file) ≡ 0) × (firstOf (sizeChecks (plateIn l)) ≡ 0) × (mostLevels l < l .count))
+  pub allowed : (l : Levels) → firstOf (sizeChecks (plateIn l)) ≡ 0 → Allowed l
   -- A level that is described is one of at most seventeen, and ends below 2^40.
   pub reckoned : (file : List ℕ) (k : ℕ) → Bytes file → levelRefusal file k ≡ 0 → (k < 17) × Reckoned (levelsIn file)
 

@@ -51,6 +51,11 @@ module _ (l : Levels) where
       let g = gridOf (pictureAt l k) in
       ap (λ (n : ℕ). startAt l k + n + sizeWordBytes (l .sized)) (taken-is (l .sized) (g .across * g .down))
 
+  -- the first level is the plate
+  pub picture-first : pictureAt l 0 ≡ plateIn l
+  unfolding halved
+  picture-first = refl
+
   -- so the walk goes from the first level on, each time to the next
   pub first-is : firstLevel l ≡ levelAt l 0
   unfolding halved startAt

@@ -16,6 +16,7 @@ use Rattle.pvrtc.specs.Calls.{refusal, BlockDecoded}
 use Rattle.pvrtc.specs.Refusals.{zeroSide, largeSide, outside, sizeChecks, checks}
 use Rattle.pvrtc.specs.declared.Call.the-variants.{Block}
 use Rattle.pvrtc.specs.declared.Decoded.{Decoded as Called}
+use Rattle.pvrtc.specs.declared.Decoded.the-variants as called
 use Rattle.pvrtc.specs.declared.Picture.{Picture}
 use Rattle.pvrtc.proofs.Accepted.{width-small, height-small, width-above, height-above}
 use Rattle.levels.specs.declared.Decoded.{Decoded}
@@ -152,7 +153,7 @@ module _ (file : List ℕ) (k : ℕ) where
 
 -- the refusals of a level, and what follows from none of them
 module _ (file : List ℕ) (k : ℕ) where
-  numbered-level : T (numbered (levelChecks file k))
+  pub numbered-level : T (numbered (levelChecks file k))
   numbered-level = numbered-append (headerChecks file) _ (numbered-header file) (numbered-words file (levelsIn file) k)
 
   module _ (none : levelRefusal file k ≡ 0) where
@@ -171,6 +172,13 @@ module _ (file : List ℕ) (k : ℕ) where
     pub plate-small : largeSide (plateIn l) ≡ false
     plate-small = none-of 2
 
+    -- there are no more levels than the sides allow, and it is one of them
+    pub not-too-many : l .count ≤ mostLevels l
+    not-too-many = ltb-false (mostLevels l) (l .count) (none-of 20)
+
+    pub one-of-them : k < l .count
+    one-of-them = leb-false (l .count) k (none-of 19)
+
     -- its own sides are accepted too
     pub level-sides : zeroSide (pictureOf file k) ≡ false
     level-sides =
@@ -188,6 +196,15 @@ module _ (file : List ℕ) (k : ℕ) where
     call-decides room =
         sym (said-later (levelChecks file k) (callChecks (pictureOf file k) (length (levelData file k)) room) numbered-level (sym none)
         (call-speaks (pictureOf file k) (length (levelData file k)) room level-sides level-small))
+
+  -- a level that is decoded is described, and its picture is the block call's
+  pub level-accepted : (room : ℕ) → decodeRefusal file k room ≡ 0 → levelRefusal file k ≡ 0
+  level-accepted room e = neither-said (levelChecks file k) (callChecks (pictureOf file k) (length (levelData file k)) room) numbered-level e .0
+
+  pub as-block : {old new : List ℕ} → LevelDecoded file k old new decoded.Done → BlockDecoded (pictureOf file k) (levelData file k) old new called.Done
+  as-block {old} a =
+      let speaks = call-decides (level-accepted (length old) (sym (a .number))) (length old) in
+      record { number = a .number ∙ speaks; words = rw (← speaks) (a .words) }
 
   -- from a description to the level's picture
   module _ {old : List ℕ} {d : Described} (a : LevelRead file k d) where

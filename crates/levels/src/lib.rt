@@ -42,17 +42,17 @@ pub enum Decoded {
 }
 
 // What a file says of its plate's levels, whatever kind of file it is.
-struct Levels {
+pub struct Levels {
     // The sides of the first one.
-    width: usize,
-    height: usize,
-    is2bpp: bool,
+    pub width: usize,
+    pub height: usize,
+    pub is2bpp: bool,
     // How many there are said to be.
-    count: usize,
+    pub count: usize,
     // Where they start: behind the metadata, or the key/value bytes.
-    start: usize,
+    pub start: usize,
     // Whether a size word stands before each, and each is padded to four bytes.
-    sized: bool,
+    pub sized: bool,
 }
 
 // What a file's header answers of its levels.
