@@ -1,5 +1,6 @@
-"""A second reading of document 01, of the KTX request, of the stored grid and of the fields' numbers, in Python: the two headers, the refusals
-and their orders, the pictures, and what `plate` writes. Pictures are those of files, with the stored grid, where a call is not told otherwise.
+"""A second reading of document 01, of the KTX request, of the stored grid, of the fields' numbers and of the levels, in Python: the two headers,
+the refusals and their orders, the pictures, a plate's levels, and what `plate` writes. Pictures are those of files, with the stored grid, where a
+call is not told otherwise.
 
 It shares nothing with the crates but those documents. The tools that know what must come out import it.
 """
@@ -19,6 +20,11 @@ KTX_PICTURE_ORDER = KTX_HEADER_ORDER + (1, 2, 36, 3, 4, 5)
 PVR_HEADER_ORDER = (11, 12, 13, 14, 15, 16, 17)
 PVR_PROGRAM_ORDER = PVR_HEADER_ORDER + (21, 1, 22, 23, 3, 5)
 KTX_PROGRAM_ORDER = (31, 32, 33, 34, 35, 21, 37, 1, 22, 23, 36, 3, 5)
+# Those of a level: of the file, where 37 is for the key/value bytes alone; of the asked level's size word; of its picture.
+PVR_LEVELS_ORDER = PVR_HEADER_ORDER + (1, 2, 20, 19)
+KTX_LEVELS_ORDER = KTX_HEADER_ORDER + (1, 2, 20, 19)
+SIZE_WORD_ORDER = (37, 36)
+LEVEL_PICTURE_ORDER = (3, 4, 5)
 
 
 # ---- pictures
@@ -234,6 +240,64 @@ def ktx_picture(file, room):
     faults, plate = ktx_file(file)
     number = first(KTX_PICTURE_ORDER, faults | holding({4: plate[0] * plate[1] > room}))
     return number, None if number else decode_at(file, *plate[:4])
+
+
+# ---- levels
+
+def level_sides(width, height, k):
+    """The sides of level k: the first ones halved k times, rounded down, never below 1."""
+    return max(1, width >> k), max(1, height >> k)
+
+
+def most_levels(width, height):
+    """How many levels there may be: the first, and one for each halving until both sides are 1."""
+    count = 1
+    while max(width, height) > 1:
+        width, height, count = width // 2, height // 2, count + 1
+    return count
+
+
+def level_start(width, height, two, begin, sized, k):
+    """Where the bytes of level k start, by the needs of those before it. With size words: one before each level, and padding to four after it."""
+    at = begin
+    for i in range(k):
+        taken = need(*level_sides(width, height, i), two)
+        at += 4 + taken + -taken % 4 if sized else taken
+    return at + 4 if sized else at
+
+
+def levels_of(file, k):
+    """All that is wrong with a file that is asked for level k, with the order; and its sides, depth, where its levels begin, and if they have size
+    words. What is wrong with the asked level itself is not among it."""
+    sized = file[:4] == KTX_BEGIN
+    faults, (width, height, two, *_) = ktx_file(file) if sized else pvr_file(file)
+    count, begin = (u32(file, 56) or 1, 64 + u32(file, 60)) if sized else (u32(file, 44), 52 + u32(file, 48))
+    faults = faults - {37} | holding({37: sized and begin > len(file), 20: count > most_levels(width, height), 19: k >= count})
+    return faults, KTX_LEVELS_ORDER if sized else PVR_LEVELS_ORDER, (width, height, two, begin, sized)
+
+
+def read_level(file, k):
+    """What describing level k answers: a refusal's number, or 0 and its sides, the depth, where its bytes start and how many it needs."""
+    faults, order, (width, height, two, begin, sized) = levels_of(file, k)
+    number = first(order, faults)
+    if number:
+        return number, None
+    sides, start = level_sides(width, height, k), level_start(width, height, two, begin, sized, k)
+    size = need(*sides, two)
+    if sized:
+        number = first(SIZE_WORD_ORDER, holding({37: start > len(file), 36: u32(file, start - 4) != size}))
+    return number, None if number else (*sides, two, start, size)
+
+
+def decode_level(file, k, room):
+    """What decoding level k into so many words answers: a refusal's number, or 0 and its words, by its bytes alone."""
+    number, level = read_level(file, k)
+    if number:
+        return number, None
+    width, height, two, start, _ = level
+    faults = picture_faults(len(file) - start, width, height, two) | holding({4: width * height > room})
+    number = first(LEVEL_PICTURE_ORDER, faults)
+    return number, None if number else decode_at(file, width, height, two, start)
 
 
 # ---- the program

@@ -8,14 +8,15 @@ use native.Mathlib.Omega.{arith}
 use lib.Dec.{eqb, ltb, leb}
 use lib.ListN.{length, getD, drop, length-drop}
 use lib.Seq.{getD-drop}
-use borrow.Author.Tests.{lt-leb, le-leb, le-ltb, ltb-false}
+use borrow.Author.Tests.{lt-leb, le-leb, lt-ltb, le-ltb, ltb-false}
 use Rattle.facts.specs.Checks.{Check, check, firstOf}
 use Rattle.facts.proofs.Checks.{first-append}
 use Rattle.facts.proofs.Lists.{choice}
+use Rattle.facts.proofs.Numbers.{lt-or-le}
 use Rattle.facts.proofs.Or.{or-left, or-right}
 use Rattle.files.specs.Fields.{u32At}
 use Rattle.files.proofs.Fields.{same-field}
-use Rattle.files.proofs.Starts.{start-even}
+use Rattle.files.proofs.Starts.{start-alike}
 use Rattle.pvr.specs.Header as pvr
 use Rattle.pvr.specs.NoEffect.{hasNoEffect, SameHeader}
 use Rattle.pvr.proofs.NoEffect as pvr-same
@@ -28,17 +29,18 @@ use Rattle.paint.specs.Sheet.{onSheet}
 use Rattle.paint.proofs.Painted.{painted-same}
 use Rattle.pvrtc.specs.Calls.{refusal}
 use Rattle.pvrtc.specs.Picture.{sheetOf, pictureTexel}
-use Rattle.pvrtc.specs.Refusals.{need, sizeChecks}
+use Rattle.pvrtc.specs.Refusals.{need, shortData, sizeChecks, roomChecks, gridChecks}
 use Rattle.pvrtc.specs.declared.Call.the-variants.{Block}
 use Rattle.pvrtc.specs.declared.Picture.{Picture}
 use Rattle.pvrtc.proofs.Accepted.{accepted}
 use Rattle.levels.specs.Calls.{noLevel}
 use Rattle.levels.specs.Levels.{pvrLevels, ktxLevels, levelsIn, plateIn, pictureAt, needAt, sizeWordBytes, startAt, levelAt, levelOf, pictureOf, levelData}
-use Rattle.levels.specs.Refusals.{headerChecks, countChecks, wordChecks, sizeWordChecks, ownChecks, levelChecks, callChecks, levelRefusal, decodeRefusal}
+use Rattle.levels.specs.Refusals.{headerChecks, countChecks, wordCut, wordChecks, sizeWordChecks, ownChecks, levelChecks, callChecks, levelRefusal, decodeRefusal}
 use Rattle.levels.specs.declared.Level.{Level}
 use Rattle.levels.specs.declared.Levels.{Levels}
 use Rattle.levels.proofs.Answers.{pvr-checks, ktx-checks, numbered-header}
-use Rattle.levels.proofs.Ranges.{as-pvr, as-ktx}
+use Rattle.levels.specs.Ranges.{endAt}
+use Rattle.levels.proofs.Ranges.{as-pvr, as-ktx, start-past, need-above}
 use Rattle.levels.proofs.Whole.{word-before, numbered-level, level-accepted, call-decides}
 use Rattle.capi.specs.Level.{describedField}
 use Rattle.capi.specs.Plate.{fieldOf}
@@ -46,14 +48,15 @@ use Rattle.demands.specs.Levels.{headerBytes, isUnread, AlikeAt, SameLev
 use Rattle.demands.proofs.Needed.{texel-there}
 use Rattle.demands.proofs.Past.{chosen}
 
--- two files of one length with the same header but for what is unread
+-- two files with the same header but for what is unread: they end at one place, or both behind what stands before the levels
 pub record AlikeFront (f g : List ℕ) : Type 0 where
-  pub size : length f ≡ length g
+  pub ends : (n : ℕ) → n ≤ levelsIn f .start → ltb (length f) n ≡ ltb (length g) n
   pub header : (i : ℕ) → i < headerBytes f → isUnread f i ≡ false → getD f i 0 ≡ getD g i 0
 
 -- and the same size word of level k: what its number is said by
 pub record AlikeBefore (f g : List ℕ) (k : ℕ) : Type 0 where
-  pub front : AlikeFront f g
+  pub ends : (n : ℕ) → n ≤ endAt (levelsIn f) k → ltb (length f) n ≡ ltb (length g) n
+  pub header : (i : ℕ) → i < headerBytes f → isUnread f i ≡ false → getD f i 0 ≡ getD g i 0
   pub word : let l = levelsIn f in (i : ℕ) → startAt l k ≤ i + sizeWordBytes (l .sized) → i < startAt l k → getD f i 0 ≡ getD g i 0
 
 -- the first four bytes are read, and tell the kind
@@ -69,18 +72,26 @@ fields-read i u = or-left (leb 20 i && ltb i 24 || leb 32 i && ltb i 36) (leb 56
 count-read : (i : ℕ) → 56 ≤ i → (leb 20 i && ltb i 24 || leb 32 i && ltb i 36) ≡ false
 count-read i h = simp (le-leb 20 i (omega arith), le-leb 32 i (omega arith), le-ltb i 24 (omega arith), le-ltb i 36 (omega arith))
 
+-- levels start behind either header
+start-high : (file : List ℕ) → pvr.headerSize ≤ levelsIn file .start
+start-high file = by (isKtx file) refl
+  where
+    by : (t : Bool) → isKtx file ≡ t → pvr.headerSize ≤ levelsIn file .start
+    by true e = omega (arith, ap (λ (l : Levels). l .start) (as-ktx file e))
+    by false e = omega (arith, ap (λ (l : Levels). l .start) (as-pvr file e))
+
 long-header : (file : List ℕ) → 52 ≤ headerBytes file
 long-header file = choice (λ (n : ℕ). 52 ≤ n) (isKtx file) (λ _. omega arith) (λ _. omega arith)
 
 module _ {f g : List ℕ} (s : AlikeFront f g) where
   same-kind : isKtx f ≡ isKtx g
-  same-kind = start-even f g ktxBytes (s .size) (λ i h. s .header i (omega (arith, long-header f)) (first-read (isKtx f) i h))
+  same-kind = start-alike f g ktxBytes (s .ends 4 (omega (arith, start-high f))) (λ i h. s .header i (omega (arith, long-header f)) (first-read (isKtx f) i h))
 
   -- a PVR header
   module _ (e : isKtx f ≡ false) where
     pvr-header : SameHeader f g
     pvr-header =
-        pvr-same.of-one-length f g (λ i h u. s .header i (rw e h) (rw e u)) (s .size)
+        record { short = s .ends pvr.headerSize (start-high f); bytes = λ i h u. s .header i (rw e h) (rw e u) }
 
     pvr-levels : levelsIn f ≡ levelsIn g
     pvr-levels =
@@ -95,8 +106,11 @@ module _ {f g : List ℕ} (s : AlikeFront f g) where
 
   -- a KTX header
   module _ (e : isKtx f ≡ true) where
+    there : levelsIn f .start ≡ ktx.sizePlace f
+    there = ap (λ (l : Levels). l .start) (as-ktx f e)
+
     ktx-fields : SameFields f g
-    ktx-fields = record { short = ap (λ (n : ℕ). ltb n ktx.headerSize) (s .size); bytes = λ i h u. s .header i (rw e h) (rw e (fields-read i u)) }
+    ktx-fields = record { short = s .ends ktx.headerSize (omega (arith, there)); bytes = λ i h u. s .header i (rw e h) (rw e (fields-read i u)) }
 
     ktx-count : ktx.levelCount f ≡ ktx.levelCount g
     ktx-count =
@@ -113,7 +127,8 @@ module _ {f g : List ℕ} (s : AlikeFront f g) where
 
     ktx-number : firstOf (headerChecks f) ≡ firstOf (headerChecks g)
     ktx-number =
-        let cut : ktx.keyValuesCut f ≡ ktx.keyValuesCut g = ap₂ ltb (s .size) (ktx-same.same-place ktx-fields) in
+        let cut : ktx.keyValuesCut f ≡ ktx.keyValuesCut g =
+        s .ends (ktx.sizePlace f) (omega (arith, there)) ∙ ap (ltb (length g)) (ktx-same.same-place ktx-fields) in
         ap firstOf (ktx-checks f e)
         ∙ first-append (ktx.fieldChecks f) (check (ktx.keyValuesCut f) 37 ∷ []) tt
         ∙ ap₂ (λ (n : ℕ) (t : Bool). cond (eqb n 0) (firstOf (check t 37 ∷ [])) n) (ktx-same.same-fields ktx-fields) cut
@@ -136,21 +151,36 @@ module _ {f g : List ℕ} (s : AlikeFront f g) where
       by false e = pvr-number e
 
 -- the size word has no other effect than by what it says
-same-words : (f g : List ℕ) (l : Levels) (k : ℕ) → length f ≡ length g → (l .sized ≡ true → u32At f (startAt l k - 4) ≡ u32At g (startAt l k - 4))
+same-words : (f g : List ℕ) (l : Levels) (k : ℕ) → wordCut f (levelAt l k) ≡ wordCut g (levelAt l k) → (l .sized ≡ true → u32At f (startAt l k - 4) ≡ u32At g (startAt l k - 4))
     → sizeWordChecks f l k ≡ sizeWordChecks g l k
 unfolding sizeWordChecks
-same-words f g l k size word = by (l .sized) refl
+same-words f g l k cut word = by (l .sized) refl
   where
     level : Level
     level = levelAt l k
 
     by : (t : Bool) → l .sized ≡ t → cond t (wordChecks f level) [] ≡ cond t (wordChecks g level) []
-    by true e = rw (size, word e) refl
+    by true e = rw (cut, word e) refl
     by false e = refl
 
+-- a level's data is short where the file ends before it does
+short-is : (file : List ℕ) (k : ℕ) → shortData (pictureOf file k) (length (levelData file k)) ≡ ltb (length file) (endAt (levelsIn file) k)
+short-is file k =
+    let at : ℕ = startAt (levelsIn file) k in
+    let bytes : ℕ = needAt (levelsIn file) k in
+    let some : 0 < bytes = need-above (levelsIn file) k in
+    ⊎-elim
+    (λ short. lt-ltb (length (levelData file k)) bytes (omega (arith, length-drop at file)) ∙ sym (lt-ltb (length file) (at + bytes) short))
+    (λ long. le-ltb (length (levelData file k)) bytes (omega (arith, length-drop at file)) ∙ sym (le-ltb (length file) (at + bytes) long))
+    (lt-or-le (length file) (at + bytes))
+
 module _ {f g : List ℕ} {k : ℕ} (s : AlikeBefore f g k) where
+  -- the level starts behind what stands before all levels
+  front : AlikeFront f g
+  front = record { ends = λ n h. s .ends n (omega (arith, start-past (levelsIn f) k)); header = s .header }
+
   levels : levelsIn f ≡ levelsIn g
-  levels = same-levels (s .front)
+  levels = same-levels front
 
   -- the four bytes of the level's size word
   same-word : levelsIn f .sized ≡ true → u32At f (startAt (levelsIn f) k - 4) ≡ u32At g (startAt (levelsIn f) k - 4)
@@ -162,14 +192,14 @@ module _ {f g : List ℕ} {k : ℕ} (s : AlikeBefore f g k) where
   own : firstOf (ownChecks f (levelsIn f) k) ≡ firstOf (ownChecks g (levelsIn g) k)
   own =
       ap (λ (w : List Check). firstOf (sizeChecks (plateIn (levelsIn f)) ++ (countChecks (levelsIn f) k ++ w)))
-      (same-words f g (levelsIn f) k (s .front .size) same-word)
+      (same-words f g (levelsIn f) k (s .ends (startAt (levelsIn f) k) (omega arith)) same-word)
       ∙ ap (λ (l : Levels). firstOf (ownChecks g l k)) levels
 
   -- so the level is described alike
   pub same-number : levelRefusal f k ≡ levelRefusal g k
   same-number =
       first-append (headerChecks f) (ownChecks f (levelsIn f) k) (numbered-header f)
-      ∙ ap₂ (λ (h n : ℕ). cond (eqb h 0) n h) (same-header (s .front)) own
+      ∙ ap₂ (λ (h n : ℕ). cond (eqb h 0) n h) (same-header front) own
       ∙ sym (first-append (headerChecks g) (ownChecks g (levelsIn g) k) (numbered-header g))
 
   pub same-level : levelOf f k ≡ levelOf g k
@@ -181,20 +211,22 @@ module _ {f g : List ℕ} {k : ℕ} (s : AlikeBefore f g k) where
   pub same-start : startAt (levelsIn f) k ≡ startAt (levelsIn g) k
   same-start = ap (λ (l : Levels). startAt l k) levels
 
-  pub even : length (levelData f k) ≡ length (levelData g k)
-  even = length-drop (startAt (levelsIn f) k) f ∙ ap₂ (λ (m n : ℕ). m - n) (s .front .size) same-start ∙ sym (length-drop (startAt (levelsIn g) k) g)
+  -- both have the level's bytes, or neither has
+  pub same-short : shortData (pictureOf f k) (length (levelData f k)) ≡ shortData (pictureOf g k) (length (levelData g k))
+  same-short =
+      short-is f k ∙ s .ends (endAt (levelsIn f) k) (omega arith) ∙ ap (λ (l : Levels). ltb (length g) (endAt l k)) levels ∙ sym (short-is g k)
 
   -- and is refused alike when it is decoded
   pub same-refusal : (room : ℕ) → decodeRefusal f k room ≡ decodeRefusal g k room
   same-refusal room =
       first-append (levelChecks f k) (callChecks (pictureOf f k) (length (levelData f k)) room) (numbered-level f k)
       ∙ ap₂ (λ (h n : ℕ). cond (eqb h 0) n h) same-number
-      (ap₂ (λ (p : Picture) (n : ℕ). firstOf (callChecks p n room)) same-picture even)
+      (ap₂ (λ (short : Bool) (p : Picture). firstOf (check short 3 ∷ (roomChecks p (Block room) ++ gridChecks p))) same-short same-picture)
       ∙ sym (first-append (levelChecks g k) (callChecks (pictureOf g k) (length (levelData g k)) room) (numbered-level g k))
 
 -- two files that are alike in the level's bytes too
 alike-before : {f g : List ℕ} {k : ℕ} → AlikeAt f g k → AlikeBefore f g k
-alike-before s = record { front = record { size = s .size; header = s .header }; word = λ i low high. s .own i low (omega arith) }
+alike-before s = record { ends = s .ends; header = s .header; word = λ i low high. s .own i low (omega arith) }
 
 module _ {f g : List ℕ} {k : ℕ} (s : AlikeAt f g k) where
   abbrev p : Picture
@@ -220,8 +252,10 @@ module _ {f g : List ℕ} {k : ℕ} (s : AlikeAt f g k) where
   same-texel room none =
       let ok : refusal p (Block room) d ≡ 0 = sym (call-decides f k (level-accepted f k room none) room) ∙ none in
       let enough : need p ≤ length d = ltb-false (length d) (need p) (accepted p (Block room) (length d) ok .enough) in
-      let same : length d ≡ length e = even (alike-before s) ∙ ap length (sym from-there) in
-      texel-there p d e enough (omega arith) same-bytes (Block room) ok
+      let short : shortData p (length e) ≡ false =
+      ap₂ (λ (q : Picture) (n : ℕ). shortData q n) (same-picture (alike-before s)) (ap length from-there)
+      ∙ sym (same-short (alike-before s)) ∙ accepted p (Block room) (length d) ok .enough in
+      texel-there p d e enough (ltb-false (length e) (need p) short) same-bytes (Block room) ok
 
   same-written : (old : List ℕ) → cond (eqb (decodeRefusal f k (length old)) 0) (onSheet (sheetOf p) (pictureTexel p d) old) old
       ≡ cond (eqb (decodeRefusal g k (length old)) 0) (onSheet (sheetOf (pictureOf g k)) (pictureTexel (pictureOf g k) (levelData g k)) old) old

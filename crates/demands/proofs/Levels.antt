@@ -5,9 +5,9 @@ use mathlib.Core.List.{List, [], _∷_, _++_}
 use mathlib.Core.Logic.{_↔_, ⊎-elim}
 use Prim.Native.Nat.{ℕ, _+_, _≤_, _<_}
 use native.Mathlib.Omega.{arith}
-use lib.Dec.{T, eqb}
-use lib.ListN.{length, getD, drop}
-use borrow.Author.Tests.{eq-eqb, ne-eqb, eqb-true, lt-ltb, ltb-true, not-false}
+use lib.Dec.{T, eqb, ltb}
+use lib.ListN.{length, getD, drop, length-append, List·getD-append}
+use borrow.Author.Tests.{eq-eqb, ne-eqb, eqb-true, lt-ltb, le-ltb, ltb-true, not-false}
 use Rattle.facts.specs.Checks.{Check, check, firstOf, numbered}
 use Rattle.facts.proofs.Checks.{none-said, first-append, said-later}
 use Rattle.facts.proofs.Lists.{choice}
@@ -41,12 +41,12 @@ use Rattle.pvrtc.proofs.Unique.{one-written}
 use Rattle.convert.specs.Output as program
 use Rattle.convert.proofs.Either as says
 use Rattle.demands.specs.Footprint.{SameOutside}
-use Rattle.demands.specs.Levels.{headerBytes, AlikeAt, Placing, EachByItself, FirstLevel}
+use Rattle.demands.specs.Levels.{headerBytes, isUnread, AlikeAt, Placing, EachByItself, FirstLevel}
 use Rattle.demands.specs.LocalCalls.{blocksOf, changed, mostTouched}
 use Rattle.demands.specs.LocalFiles.{DamagedAt, OnlyNear}
 use Rattle.demands.specs.NoEffect.{SameButFlags}
 use Rattle.demands.specs.Right.{placeIn, by-level, by-program}
-use Rattle.demands.proofs.Alike.{AlikeFront, AlikeBefore, same-picture, same-start, same-refusal, same-level-of}
+use Rattle.demands.proofs.Alike.{AlikeBefore, same-picture, same-start, same-refusal, same-level-of}
 use Rattle.demands.proofs.LocalCalls.{local-pictures}
 use Rattle.demands.proofs.LocalFiles.{only-near, in-front, other-blocks}
 use Rattle.demands.proofs.NoEffect.{past-header}
@@ -68,11 +68,14 @@ module _ (f g : List ℕ) (j z : ℕ) (s : DamagedAt (startAt (levelsIn f) j) f 
   abbrev l : Levels
   l = levelsIn f
 
-  front : AlikeFront f g
-  front = record { size = s .size; header = λ i h _. in-front s i (omega (arith, past-front f j)) }
+  ends : (n : ℕ) → ltb (length f) n ≡ ltb (length g) n
+  ends n = ap (λ (m : ℕ). ltb m n) (s .size)
+
+  front : (i : ℕ) → i < headerBytes f → isUnread f i ≡ false → getD f i 0 ≡ getD g i 0
+  front i h _ = in-front s i (omega (arith, past-front f j))
 
   before : AlikeBefore f g j
-  before = record { front = front; word = λ i low high. in-front s i high }
+  before = record { ends = λ n _. ends n; header = front; word = λ i low high. in-front s i high }
 
   -- in level j the other blocks are as they were
   from-there : drop (startAt l j) g ≡ levelData g j
@@ -104,22 +107,34 @@ module _ (f g : List ℕ) (j z : ℕ) (s : DamagedAt (startAt (levelsIn f) j) f 
         (lt-or-le k j)
 
     elsewhere : AlikeAt f g k
-    elsewhere = record { size = s .size; header = front .header; own = kept }
+    elsewhere = record { ends = λ n _. ends n; header = front; own = kept }
 
 -- PVR's flags, colour space and channel type are no part of a level
 flags-alike : (f g : List ℕ) → isKtx f ≡ false → SameButFlags f g → (k : ℕ) → AlikeAt f g k
 flags-alike f g e s k =
     let past = past-front f k in
     record {
-      size = s .size;
+      ends = λ n _. ap (λ (m : ℕ). ltb m n) (s .size);
       header = λ i h u. s .bytes i (rw e at u);
       own = λ i low high. s .bytes i (past-header i (omega (arith, rw e at past)));
+    }
+
+-- nor is what follows it
+later-alike : (file more : List ℕ) (k : ℕ) → endAt (levelsIn file) k ≤ length file → AlikeAt file (file ++ more) k
+later-alike file more k h =
+    let longer = length-append file more in
+    let byte : (i : ℕ) → i < length file → getD file i 0 ≡ getD (file ++ more) i 0 = λ i l. sym (List·getD-append file more 0 i l) in
+    record {
+      ends = λ n l. le-ltb (length file) n (omega arith) ∙ sym (le-ltb (length (file ++ more)) n (omega (arith, longer)));
+      header = λ i l _. byte i (omega (arith, past-front file k));
+      own = λ i low high. byte i (omega arith);
     }
 
 pub each-by-itself : EachByItself
 each-by-itself =
     record {
       alike = λ f g k. same-level-of;
+      later = λ file more k h. same-level-of (later-alike file more k h);
       flags = λ f g e s k. same-level-of (flags-alike f g e s k);
       others = λ f g j z s inside k other. same-level-of (elsewhere f g j z s inside k other);
       near = near;

@@ -1,7 +1,7 @@
 -- The levels of a file beside one another, and level 0 beside the plate. Assumes nothing: these are definitions.
 use mathlib.Core.Path.{_≡_}
 use mathlib.Core.Bool.{Bool, true, false, cond, _&&_, _||_}
-use mathlib.Core.List.{List}
+use mathlib.Core.List.{List, _++_}
 use mathlib.Core.Logic.{_↔_}
 use Prim.Native.Nat.{ℕ, _+_, _*_, _≤_, _<_}
 use lib.Dec.{ltb, leb}
@@ -54,10 +54,10 @@ headerBytes file = cond (isKtx file) ktx.headerSize pvr.headerSize
 abbrev pub isUnread : List ℕ → ℕ → Bool
 isUnread file i = cond (isKtx file) (leb 20 i && ltb i 24 || leb 32 i && ltb i 36) (hasNoEffect i)
 
--- Two files of one length that are alike in what level k is read from: the header, the level's own size word and its own bytes. Metadata or key/value
--- bytes, every other size word and every other level may differ.
+-- Two files that are alike in what level k is read from: the header, the level's own size word and its own bytes. They end at one place, or both behind
+-- the level. Metadata or key/value bytes, every other size word and every other level may differ.
 pub record AlikeAt (f g : List ℕ) (k : ℕ) : Type 0 where
-  pub size : length f ≡ length g
+  pub ends : (n : ℕ) → n ≤ endAt (levelsIn f) k → ltb (length f) n ≡ ltb (length g) n
   pub header : (i : ℕ) → i < headerBytes f → isUnread f i ≡ false → getD f i 0 ≡ getD g i 0
   pub own : let l = levelsIn f in (i : ℕ) → startAt l k ≤ i + sizeWordBytes (l .sized) → i < endAt l k → getD f i 0 ≡ getD g i 0
 
@@ -72,6 +72,8 @@ pub record SameLevel (f g : List ℕ) (k : ℕ) : Type 0 where
 pub record EachByItself : Type 0 where
   -- Nothing else has an effect: no earlier size word either.
   pub alike : (f g : List ℕ) (k : ℕ) → AlikeAt f g k → SameLevel f g k
+  -- What follows the level has none.
+  pub later : (file more : List ℕ) (k : ℕ) → endAt (levelsIn file) k ≤ length file → SameLevel file (file ++ more) k
   -- PVR's flags, colour space and channel type have none.
   pub flags : (f g : List ℕ) → isKtx f ≡ false → SameButFlags f g → (k : ℕ) → SameLevel f g k
   -- Damage in block z of level j changes nothing of another level.

@@ -1,5 +1,5 @@
 -- Comparing a file's first bytes from the front on. Assumes nothing.
-use mathlib.Core.Path.{_≡_, refl, sym, _∙_}
+use mathlib.Core.Path.{_≡_, refl, sym, ap, _∙_}
 use mathlib.Core.Bool.{Bool, true, false, _&&_}
 use mathlib.Core.List.{List, [], _∷_, _++_}
 use mathlib.Core.Logic.{⊎-elim}
@@ -7,10 +7,10 @@ use Prim.Native.Nat.{ℕ, suc, _+_, _<_, _≤_}
 use native.Mathlib.Nat.{le-of-suc-le-suc, not-suc-le-zero}
 use native.Mathlib.Numerals.{add-one}
 use native.Mathlib.Omega.{arith}
-use lib.Dec.{eqb}
+use lib.Dec.{eqb, ltb}
 use lib.ListN.{length, getD, drop, length-append, List·getD-append, drop-of-length-le}
 use lib.Seq.{drop-cons}
-use borrow.Author.Tests.{eq-eqb, ne-eqb}
+use borrow.Author.Tests.{eq-eqb, ne-eqb, lt-ltb, le-ltb, ltb-true, ltb-false}
 use Rattle.facts.proofs.Numbers.{lt-or-le}
 use Rattle.files.specs.Fields.{startsWith}
 
@@ -63,11 +63,16 @@ pub start-before : (file more p : List ℕ) → length p ≤ length file → sta
 start-before file more p h =
     same-start (file ++ more) file p (omega (arith, length-append file more)) h (λ i l. List·getD-append file more 0 i (omega arith))
 
--- and so do two files of one length that are alike there, however short they are
+-- two files that are alike there start alike, if both are too short for it or neither is
+pub start-alike : (f g p : List ℕ) → ltb (length f) (length p) ≡ ltb (length g) (length p) → ((i : ℕ) → i < length p → getD f i 0 ≡ getD g i 0)
+    → startsWith f p ≡ startsWith g p
+start-alike f g p h e =
+    ⊎-elim
+    (λ short. sym (too-short f p short) ∙ too-short g p (ltb-true (length g) (length p) (sym h ∙ lt-ltb (length f) (length p) short)))
+    (λ long. same-start f g p long (ltb-false (length g) (length p) (sym h ∙ le-ltb (length f) (length p) long)) e)
+    (lt-or-le (length f) (length p))
+
+-- and so do two files of one length, however short they are
 pub start-even : (f g p : List ℕ) → length f ≡ length g → ((i : ℕ) → i < length p → getD f i 0 ≡ getD g i 0)
     → startsWith f p ≡ startsWith g p
-start-even f g p h e =
-    ⊎-elim
-    (λ short. sym (too-short f p short) ∙ too-short g p (omega (arith, short)))
-    (λ long. same-start f g p long (omega (arith, long)) e)
-    (lt-or-le (length f) (length p))
+start-even f g p h e = start-alike f g p (ap (λ (n : ℕ). ltb n (length p)) h) e

@@ -10,7 +10,7 @@ use borrow.Author.Tests.{le-ltb}
 use Rattle.facts.proofs.Numbers.{lt-or-le}
 use Rattle.grid.specs.Grid.{log2}
 use Rattle.ktx.specs.Header.{isKtx}
-use Rattle.pvrtc.specs.Picture.{gridOf}
+use Rattle.pvrtc.specs.Picture.{sideIn, gridOf}
 use Rattle.pvrtc.specs.Refusals.{need, zeroSide, largeSide}
 use Rattle.pvrtc.specs.declared.Picture.{Picture}
 use Rattle.pvrtc.proofs.Accepted.{width-above, height-above, few-across, few-down}
@@ -67,6 +67,14 @@ module _ (l : Levels) where
     where
       step : nextLevel (l .sized) (levelAt l k) ≡ levelAt l (suc k)
       step = refl
+
+  -- a level needs four blocks at least, since its grid is stored
+  pub need-above : (k : ℕ) → 0 < needAt l k
+  unfolding sideIn
+  need-above k =
+      let across : 2 ≤ gridOf (pictureAt l k) .across = omega arith in
+      let down : 2 ≤ gridOf (pictureAt l k) .down = omega arith in
+      omega (arith, mul-le-mul across down)
 
   -- and every later one does
   start-later : (i n : ℕ) → endAt l i + sizeWordBytes (l .sized) ≤ startAt l (suc (i + n))
