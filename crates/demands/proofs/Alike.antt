@@ -35,7 +35,8 @@ use Rattle.pvrtc.specs.declared.Picture.{Picture}
 use Rattle.pvrtc.proofs.Accepted.{accepted}
 use Rattle.levels.specs.Calls.{noLevel}
 use Rattle.levels.specs.Levels.{pvrLevels, ktxLevels, levelsIn, plateIn, pictureAt, needAt, sizeWordBytes, startAt, levelAt, levelOf, pictureOf, levelData}
-use Rattle.levels.specs.Refusals.{headerChecks, countChecks, wordCut, wordChecks, sizeWordChecks, ownChecks, levelChecks, callChecks, levelRefusal, decodeRefusal}
+use Rattle.levels.specs.Refusals.{headerChecks, countChecks, wordCut, wordChecks, sizeWordChecks, ownChecks, levelChecks, callChecks}
+use Rattle.levels.specs.Refusals.{levelRefusal, decodeRefusal}
 use Rattle.levels.specs.declared.Level.{Level}
 use Rattle.levels.specs.declared.Levels.{Levels}
 use Rattle.levels.proofs.Answers.{pvr-checks, ktx-checks, numbered-header}
@@ -151,8 +152,8 @@ module _ {f g : List ℕ} (s : AlikeFront f g) where
       by false e = pvr-number e
 
 -- the size word has no other effect than by what it says
-same-words : (f g : List ℕ) (l : Levels) (k : ℕ) → wordCut f (levelAt l k) ≡ wordCut g (levelAt l k) → (l .sized ≡ true → u32At f (startAt l k - 4) ≡ u32At g (startAt l k - 4))
-    → sizeWordChecks f l k ≡ sizeWordChecks g l k
+same-words : (f g : List ℕ) (l : Levels) (k : ℕ) → wordCut f (levelAt l k) ≡ wordCut g (levelAt l k)
+    → (l .sized ≡ true → u32At f (startAt l k - 4) ≡ u32At g (startAt l k - 4)) → sizeWordChecks f l k ≡ sizeWordChecks g l k
 unfolding sizeWordChecks
 same-words f g l k cut word = by (l .sized) refl
   where

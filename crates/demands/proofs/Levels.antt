@@ -232,13 +232,13 @@ module _ (file : List ℕ) (k : ℕ) where
   too-many : (levelRefusal file k ≡ 20) ↔ ((firstOf (headerChecks file) ≡ 0) × (firstOf (sizeChecks (plateIn ls)) ≡ 0) × (mostLevels ls < ls .count))
   too-many = (
     λ e.
-    let own = not-said 20 (headerChecks file) (ownChecks file ls k) (numbered-header file) none-is-20 (omega arith) e in
-    let rest = not-said 20 (sizeChecks (plateIn ls)) (countChecks ls k ++ sizeWordChecks file ls k) tt tt (omega arith) (own .1) in
-    (own .0, rest .0, counted (tooManyLevels ls) refl (rest .1)),
+        let own = not-said 20 (headerChecks file) (ownChecks file ls k) (numbered-header file) none-is-20 (omega arith) e in
+        let rest = not-said 20 (sizeChecks (plateIn ls)) (countChecks ls k ++ sizeWordChecks file ls k) tt tt (omega arith) (own .1) in
+        (own .0, rest .0, counted (tooManyLevels ls) refl (rest .1)),
     λ c.
-    sym (said-later (headerChecks file) (ownChecks file ls k) (numbered-header file) (sym (c .0))
-    (said-later (sizeChecks (plateIn ls)) (countChecks ls k ++ sizeWordChecks file ls k) tt (sym (c .1))
-    (holds-here _ 20 _ (lt-ltb (mostLevels ls) (ls .count) (c .2))))),
+        sym (said-later (headerChecks file) (ownChecks file ls k) (numbered-header file) (sym (c .0))
+        (said-later (sizeChecks (plateIn ls)) (countChecks ls k ++ sizeWordChecks file ls k) tt (sym (c .1))
+        (holds-here _ 20 _ (lt-ltb (mostLevels ls) (ls .count) (c .2))))),
   )
 
 -- a number of four bytes is below 2^32, so that levels start low

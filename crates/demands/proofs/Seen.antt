@@ -28,7 +28,8 @@ use Rattle.levels.proofs.Whole.{as-block as level-block}
 use Rattle.capi.specs.Plate.{texelAnswer, Wrote}
 use Rattle.capi.proofs.Answers.{number-back, value-back}
 use Rattle.convert.specs.Output.{plateOf, levelData, programRefusal, output}
-use Rattle.demands.specs.Right.{placeIn, Gives, by-texel, by-row, by-block, by-c-texel, by-c-row, by-c-picture, by-ktx, by-c-ktx, by-level, by-c-level, by-program}
+use Rattle.demands.specs.Right.{placeIn, Gives, by-texel, by-row, by-block, by-c-texel, by-c-row, by-c-picture}
+use Rattle.demands.specs.Right.{by-ktx, by-c-ktx, by-level, by-c-level, by-program}
 use Rattle.demands.proofs.Program.{block-accepted, is-tga, tga-texel}
 
 -- a texel of an accepted picture, and its word

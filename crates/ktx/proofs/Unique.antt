@@ -9,11 +9,14 @@ use Rattle.pvrtc.proofs.Unique as call
 use Rattle.files.proofs.Fields.{same-depth}
 use Rattle.ktx.specs.declared.Decoded.{Decoded}
 use Rattle.ktx.specs.declared.Decoded.the-variants as decoded
+use Rattle.ktx.specs.declared.Fields.{Fields}
+use Rattle.ktx.specs.declared.Fields.the-variants as fields
 use Rattle.ktx.specs.declared.Header.{Header}
 use Rattle.ktx.specs.declared.Header.the-variants.{Plate, Refused}
 use Rattle.ktx.specs.declared.HeaderRefusal.{HeaderRefusal}
 use Rattle.ktx.specs.declared.HeaderRefusal.the-variants.{ShortHeader, NotKtx, OtherByteOrder, UnknownFormat, NotOnePlate, CutShort}
 use Rattle.ktx.specs.Header.{numberOf, headerNumber, headerWidth, headerHeight, headerBits, headerPayload, headerSizeWord, HeaderRead}
+use Rattle.ktx.specs.Inner.{fieldsNumber, FieldsSay}
 use Rattle.ktx.specs.Picture.{decodedNumber, KtxDecoded}
 use Rattle.ktx.proofs.Answers.{number-above}
 
@@ -34,6 +37,16 @@ back CutShort = refl
 
 pub same-refusal : (f g : HeaderRefusal) → numberOf f ≡ numberOf g → f ≡ g
 same-refusal f g e = sym (back f) ∙ ap ofNumber e ∙ back g
+
+-- so what the fields say is one answer
+pub one-fields : (file : List ℕ) (r s : Fields) → FieldsSay file r → FieldsSay file s → r ≡ s
+one-fields file r s a b = same-fields r s (a ∙ sym b)
+  where
+    same-fields : (r s : Fields) → fieldsNumber r ≡ fieldsNumber s → r ≡ s
+    same-fields fields.Fine fields.Fine e = refl
+    same-fields fields.Fine (fields.Refused g) e = absurd (omega (arith, number-above g))
+    same-fields (fields.Refused f) fields.Fine e = absurd (omega (arith, number-above f))
+    same-fields (fields.Refused f) (fields.Refused g) e = ap fields.Refused (same-refusal f g e)
 
 -- answers with the same number and the same values are the same
 same-header : (r s : Header) → headerNumber r ≡ headerNumber s → headerWidth r ≡ headerWidth s → headerHeight r ≡ headerHeight s

@@ -6,6 +6,7 @@ use Prim.Native.Nat.{ℕ}
 use native.Mathlib.Omega.{arith}
 use lib.Dec.{eqb, ltb}
 use borrow.Author.Tests.{lt-ltb, le-ltb, ne-eqb}
+use Rattle.facts.specs.Checks.{Check}
 use Rattle.pvrtc.specs.Refusals as call-spec
 use Rattle.pvrtc.proofs.Unique as call
 use Rattle.pvr.specs.Header as pvr-spec
@@ -16,10 +17,13 @@ use Rattle.levels.specs.declared.Decoded.{Decoded}
 use Rattle.levels.specs.declared.Decoded.the-variants as decoded
 use Rattle.levels.specs.declared.Described.{Described}
 use Rattle.levels.specs.declared.Described.the-variants as described
+use Rattle.levels.specs.declared.Found.{Found}
+use Rattle.levels.specs.declared.Found.the-variants as found
 use Rattle.levels.specs.declared.Refusal.{Refusal}
 use Rattle.levels.specs.declared.Refusal.the-variants.{Pvr, Ktx, Picture, TooManyLevels, NoSuchLevel, OtherSize}
 use Rattle.levels.specs.Calls.{describedNumber, describedLevel, LevelRead, LevelDecoded}
-use Rattle.levels.specs.Refusals.{numberOf, decodedNumber}
+use Rattle.levels.specs.Inner.{foundNumber, foundLevels, LevelsFound}
+use Rattle.levels.specs.Refusals.{numberOf, decodedNumber, Says}
 use Rattle.levels.proofs.Answers.{number-above}
 
 -- a refusal's number tells which it is: 1 to 6 are the block call's, 11 to 17 a PVR header's, and from 31 on all but 36 a KTX header's
@@ -59,6 +63,20 @@ same-decoded decoded.Done decoded.Done e = refl
 same-decoded decoded.Done (decoded.Refused g) e = absurd (omega (arith, number-above g))
 same-decoded (decoded.Refused f) decoded.Done e = absurd (omega (arith, number-above f))
 same-decoded (decoded.Refused f) (decoded.Refused g) e = ap decoded.Refused (same-refusal f g e)
+
+-- so that one answer says what a list of checks says
+pub one-said : (l : List Check) (r s : Decoded) → Says r l → Says s l → r ≡ s
+one-said l r s a b = same-decoded r s (a ∙ sym b)
+
+-- what is found of a file's levels
+same-found : (r s : Found) → foundNumber r ≡ foundNumber s → foundLevels r ≡ foundLevels s → r ≡ s
+same-found (found.Levels l) (found.Levels m) e q = ap found.Levels q
+same-found (found.Levels l) (found.Refused g) e q = absurd (omega (arith, number-above g))
+same-found (found.Refused f) (found.Levels m) e q = absurd (omega (arith, number-above f))
+same-found (found.Refused f) (found.Refused g) e q = ap found.Refused (same-refusal f g e)
+
+pub one-found : (file : List ℕ) (r s : Found) → LevelsFound file r → LevelsFound file s → r ≡ s
+one-found file r s a b = same-found r s (a .number ∙ sym (b .number)) (a .levels ∙ sym (b .levels))
 
 -- and descriptions with the same number and the same level
 same-described : (r s : Described) → describedNumber r ≡ describedNumber s → describedLevel r ≡ describedLevel s → r ≡ s

@@ -126,7 +126,8 @@ module _ (file : List ℕ) (l : Levels) (k : ℕ) (r : Decoded) (says : Says r (
       module _ (sized : l .sized ≡ true) (s : Decoded) (word : Says s (wordChecks file m)) where
         from-word : {n : ℕ} → n ≡ decodedNumber s → n ≡ firstOf (ownChecks file l k)
         from-word e =
-            said-later first (sizeWordChecks file l k) tt none (e ∙ word ∙ ap (λ (c : Level). firstOf (wordChecks file c)) is ∙ ap firstOf (sym (words-of file l k sized)))
+            said-later first (sizeWordChecks file l k) tt none
+            (e ∙ word ∙ ap (λ (c : Level). firstOf (wordChecks file c)) is ∙ ap firstOf (sym (words-of file l k sized)))
 
         pub by-word : {f : Refusal} → s ≡ decoded.Refused f → Own (described.Refused f)
         by-word e = by-refusal (from-word (sym (ap decodedNumber e)))
@@ -164,7 +165,9 @@ module _ (file : List ℕ) (k : ℕ) where
     own-none = neither-said (headerChecks file) (ownChecks file l k) (numbered-header file) none .1
 
     none-of : (n : ℕ) → condition (sizeChecks (plateIn l) ++ countChecks l k) n ≡ false
-    none-of = none-said (sizeChecks (plateIn l) ++ countChecks l k) tt (neither-said (sizeChecks (plateIn l) ++ countChecks l k) (sizeWordChecks file l k) tt own-none .0)
+    none-of =
+        let before : List Check = sizeChecks (plateIn l) ++ countChecks l k in
+        none-said before tt (neither-said before (sizeWordChecks file l k) tt own-none .0)
 
     pub plate-sides : zeroSide (plateIn l) ≡ false
     plate-sides = none-of 1

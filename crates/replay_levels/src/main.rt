@@ -2,8 +2,6 @@
 // was written by tools/replay_levels. It is one module, since what a function prints is nothing that it could promise.
 mod tables;
 
-ghost use lib.ListN.{length};
-ghost use Rattle.convert.specs.Output.{Room};
 use ktx::Header;
 use levels::Described;
 use levels::Level;
@@ -318,8 +316,7 @@ fn print_calls(row: [u32; 8], ktx: bool, bytes: &mut [u8]) {
     print_name(b", level", 0);
     print_answers(bytes, end, 0, 6000);
     print_header(bytes, end);
-    io::write_all(1, b"; program ");
-    print_converted(bytes, end);
+    print_program(bytes, end);
 }
 
 // Lays a file, its levels' data by the rule of sample files.
@@ -470,31 +467,14 @@ fn print_header(bytes: &[u8], end: usize) {
     }
 }
 
-// What `plate` writes for the first `end` bytes of a file.
-fn print_converted(bytes: &[u8], end: usize) {
+// How many bytes `plate` writes for the first `end` bytes of a file: the line of a refusal has 10 or 11, and the TGA of 5 by 5 texels 118.
+fn print_program(bytes: &[u8], end: usize) {
     let mut image = [0u32; 131072];
     let mut out = [0u8; 524306];
     let n = facts::least(end, bytes.len());
-    print_written(&bytes[..n], &mut image, &mut out);
-}
-
-fn print_written(file: &[u8], image: &mut [u32], out: &mut [u8])
-    requires { ⌜ Room (length (now image)) (length (now out)) ⌝ }
-{
-    let r = convert::convert(file, image, out);
-    print_output(&out[..r]);
-}
-
-// A refusal's line as it is; of a picture, how many bytes and their checksum.
-fn print_output(bytes: &[u8]) {
-    if bytes.len() < 12 {
-        io::write_all(1, bytes);
-    } else {
-        io::print_decimal(1, bytes.len() as u64);
-        io::write_all(1, b" bytes, sum ");
-        io::print_decimal(1, samples::sum_of_bytes(bytes));
-        io::write_all(1, b"\n");
-    }
+    let written = convert::plate_convert(&bytes[..n], &mut image, &mut out);
+    print_name(b"; program writes", written as u64);
+    io::write_all(1, b"\n");
 }
 
 // A name and a number of a line.
