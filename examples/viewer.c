@@ -1,10 +1,12 @@
-/* Opens a PVR or a KTX file by its header, reads some texels and the whole picture through the calls of plate.h, and prints them.
+/* Opens a PVR or a KTX file by its header, reads some texels and the whole picture through the calls of plate.h, and prints them. With a
+ * number, it prints that level of the file: its sides, where its data stands, and a sum of its picture.
  *
  *   viewer page.pvr
  *   viewer page.ktx
+ *   viewer levels.pvr 2
  *
- * Exit status: 0 the picture is printed; 1 the file is refused, and its number printed; 2 something else went wrong, and standard error says
- * what.
+ * Exit status: 0 the picture is printed; 1 the file or the level is refused, and its number printed; 2 something else went wrong, and standard
+ * error says what.
  */
 #include <errno.h>
 #include <inttypes.h>
@@ -14,10 +16,10 @@
 
 #include "plate.h"
 
-/* Says what went wrong with a file, and gives the exit status for it. */
-static int fail(const char *path, const char *what)
+/* Says what went wrong with what was named, and gives the exit status for it. */
+static int fail(const char *name, const char *what)
 {
-    fprintf(stderr, "viewer: %s: %s\n", path, what);
+    fprintf(stderr, "viewer: %s: %s\n", name, what);
     return 2;
 }
 
@@ -48,30 +50,35 @@ static const char *read_file(const char *path, uint8_t **bytes, size_t *len)
 /* The mode for data that comes from a file: any number but 0 is the stored mode. */
 enum { STORED = 1 };
 
-/* A file with what its header says: its sides and depth, and the data that is there. */
+/* A file, or one of its levels, if one is asked for: its sides and depth, and the data that is there. */
 struct plate {
     const uint8_t *file, *data;
     size_t len, left;
     int is_ktx;
+    const uint64_t *level;
     uint64_t width, height;
     uint32_t depth;
 };
 
-/* A field of the header, by the call for the file's kind. */
+/* A field of the level or of the header, by the call for the file's kind. Each has the sides, the bits and the data's place at 1 to 4. */
 static uint64_t field(const struct plate *p, uint32_t number)
 {
+    if (p->level)
+        return plate_level_field(p->file, p->len, *p->level, number);
     return p->is_ktx ? plate_ktx(p->file, p->len, number) : plate_header(p->file, p->len, number);
 }
 
-/* The texel, by the same call for both kinds. */
+/* The texel, by the same call for all of them. */
 static uint64_t texel(const struct plate *p, uint64_t x, uint64_t y)
 {
     return plate_texel(p->data, p->left, p->width, p->height, p->depth, STORED, x, y);
 }
 
-/* The picture, by the call for the file's kind. */
+/* The picture, by the call for a level or for the file's kind. */
 static uint64_t decode(const struct plate *p, uint32_t *image, size_t room)
 {
+    if (p->level)
+        return plate_level(p->file, p->len, *p->level, image, room);
     if (p->is_ktx)
         return plate_ktx_picture(p->file, p->len, image, room);
     return plate_picture(p->data, p->left, p->width, p->height, p->depth, STORED, image, room);
@@ -124,15 +131,28 @@ static int print_picture(const char *path, const struct plate *p)
     return refused != 0;
 }
 
-/* What the header says, and what the calls make of it. The first bytes say the file's kind, as they do for the program. Answers the exit
- * status. */
-static int print_file(const char *path, const uint8_t *file, size_t len)
+/* What the header or the level's description says. */
+static void print_description(const struct plate *p, uint64_t bits, uint64_t payload)
 {
-    struct plate p = {.file = file, .data = file, .len = len};
+    if (p->level)
+        printf("level %" PRIu64 ": ", *p->level);
+    printf("%" PRIu64 " x %" PRIu64 ", %" PRIu64 " bits a texel, data at %" PRIu64, p->width, p->height, bits, payload);
+    if (p->level)
+        printf(", %" PRIu64 " bytes", field(p, 5));
+    else if (p->is_ktx)
+        printf(", size word %" PRIu64, field(p, 5));
+    printf("\n");
+}
+
+/* A file, or the level of it that is asked for, and what the calls make of it. The first bytes say the file's kind, as they do for the
+ * program; of a level the calls see to that. Answers the exit status. */
+static int print_file(const char *path, const uint8_t *file, size_t len, const uint64_t *level)
+{
+    struct plate p = {.file = file, .data = file, .len = len, .level = level};
     p.is_ktx = len >= 4 && memcmp(file, "\xABKTX", 4) == 0;
     uint64_t refused = field(&p, 0);
     if (refused) {
-        printf("header refused %" PRIu64 "\n", refused);
+        printf("%s refused %" PRIu64 "\n", level ? "level" : "header", refused);
         return 1;
     }
     uint64_t bits = field(&p, 3), payload = field(&p, 4);
@@ -143,25 +163,47 @@ static int print_file(const char *path, const uint8_t *file, size_t len)
         p.data = file + payload;
         p.left = len - (size_t)payload;
     }
-    printf("%" PRIu64 " x %" PRIu64 ", %" PRIu64 " bits a texel, data at %" PRIu64, p.width, p.height, bits, payload);
-    if (p.is_ktx)
-        printf(", size word %" PRIu64, field(&p, 5));
-    printf("\n");
-    print_texels(&p);
+    print_description(&p, bits, payload);
+    if (!level)
+        print_texels(&p);
     return print_picture(path, &p);
+}
+
+/* A number of decimal digits. Answers whether it is one that 64 bits hold. */
+static int read_number(const char *digits, uint64_t *number)
+{
+    *number = 0;
+    do {
+        if (*digits < '0' || *digits > '9')
+            return 0;
+        uint64_t digit = (uint64_t)(*digits - '0');
+        if (*number > (UINT64_MAX - digit) / 10)
+            return 0;
+        *number = 10 * *number + digit;
+    } while (*++digits);
+    return 1;
+}
+
+static int usage(void)
+{
+    fprintf(stderr, "usage: viewer PLATE [LEVEL], a PVR or a KTX file, and a level's number\n");
+    return 2;
 }
 
 int main(int argc, char **argv)
 {
     uint8_t *file = NULL;
     size_t len = 0;
+    uint64_t level = 0;
 
-    if (argc != 2) {
-        fprintf(stderr, "usage: viewer PLATE, a PVR or a KTX file\n");
-        return 2;
+    if (argc != 2 && argc != 3)
+        return usage();
+    if (argc == 3 && !read_number(argv[2], &level)) {
+        fail(argv[2], "this is no level's number");
+        return usage();
     }
     const char *wrong = read_file(argv[1], &file, &len);
-    int status = wrong ? fail(argv[1], wrong) : print_file(argv[1], file, len);
+    int status = wrong ? fail(argv[1], wrong) : print_file(argv[1], file, len, argc == 3 ? &level : NULL);
     free(file);
     return status;
 }

@@ -10,12 +10,14 @@
  *  12  not a PVR version 3 file                   16  the number of faces is not 1
  *  13  a pixel format other than 0 to 3           17  the number of levels is 0
  *  14  the texture's depth is not 1
+ *  19  no such level                              20  more levels than the sides allow
  *  31  a KTX file shorter than its header         35  depth or array elements not 0, or faces not 1
  *  32  not a KTX version 1 file                   36  the size word is not the need
  *  33  a KTX file that is not little-endian       37  key/value bytes or size word past the end
  *  34  type or format not 0, or not PVRTC
  *
- * The program `plate` has three more, which no call answers. All of these words stand in docs/refusals.txt too, for the program to say.
+ * Only the calls for levels answer 19 and 20. The program `plate`, which reads the first level, has neither; it has three more, which no call
+ * answers. All of these words stand in docs/refusals.txt too, for the program to say those that it has.
  *
  *  21  metadata or key/value bytes above 4,096    23  a need above 32,768 bytes
  *  22  a side is above 1,024
@@ -67,6 +69,20 @@ uint64_t plate_ktx(const uint8_t *file, size_t len, uint32_t field);
 /* The picture of a KTX version 1 file into `room` lent words, as plate_picture gives it in the stored mode. Answers the refusal's number, the
  * first of the header's and then 1, 2, 36, 3, 4 and 5 that holds; refused, every word stays. */
 uint64_t plate_ktx_picture(const uint8_t *file, size_t len, uint32_t *image, size_t room);
+
+/* A field of a level of a PVR or a KTX file, which is told by its first four bytes, as the program tells it. Level 0 is the file's picture, and
+ * each later one has the sides of the one before halved, rounded down, and 1 at the least. 0: the refusal's number, the first that holds of the
+ * header's (of a KTX file 37 is here for the key/value bytes alone), 1 and 2 for the sides of level 0, 20, 19, and then, of a KTX file, 37 and
+ * 36 for this level's size word; 1: width; 2: height; 3: bits a texel, 2 or 4; 4: where the level's data starts; 5: how many bytes it needs.
+ * Fields 1 to 5 of a refused level, and any other field, are 0.
+ *
+ * No words are lent and no data is read, so that field 0 may be 0 of a level that plate_level refuses with 3, 4 or 5, and field 4 may lie past
+ * the end of a PVR file. Where a level stands follows from the sides: no other level's size word is read. */
+uint64_t plate_level_field(const uint8_t *file, size_t len, uint64_t level, uint32_t field);
+
+/* A level of a PVR or a KTX file into `room` lent words, as plate_picture gives it in the stored mode. Answers the refusal's number, the first
+ * of those of plate_level_field and then 3, 4 and 5 that holds; refused, every word stays. */
+uint64_t plate_level(const uint8_t *file, size_t len, uint64_t level, uint32_t *image, size_t room);
 
 #ifdef __cplusplus
 }

@@ -4,13 +4,15 @@
 // faster. Ours is timed in the Rust's mode and in the stored one. Every picture that is timed is first decoded by both and compared. Built with
 // `--cfg before`, it times another build of our library as well, in the Rust's mode and in turn with the others: then the last two columns are
 // our times in the two modes divided by that build's, so above 1 ours is slower.
+//
+// Two tables more are of levels: a level from a file against the block call on the same bytes, and a level's description by itself.
 
 extern crate color;
 
 mod both;
 mod shape;
 
-use both::{draw, plate_picture, plate_row, plate_texel};
+use both::{draw, plate_level, plate_level_field, plate_picture, plate_row, plate_texel};
 use shape::{Shape, RUSTS, STORED};
 use std::hint::black_box;
 
@@ -103,6 +105,9 @@ extern "C" {
         data: *const u8, len: usize, width: u64, height: u64, depth: u32, #[cfg(not(without_mode))] mode: u32, image: *mut u32, room: usize,
     ) -> u64;
 }
+
+// Where ours in the stored mode stands among these.
+const OURS_STORED: usize = 1;
 
 // Ours in both modes, and the other build if there is one.
 static BUILDS: &[Calls] = &[
@@ -236,6 +241,78 @@ fn print_head() {
     println!("|{}", "---|".repeat(columns.len()));
 }
 
+// The header of a file that says so many levels.
+fn header(is_ktx: bool, s: Shape, levels: u32) -> Vec<u8> {
+    let (width, height, depth) = (s.width as u32, s.height as u32, s.is2bpp as u32);
+    let (identifier, fields): (&[u8], [u32; 13]) = if is_ktx {
+        (b"\xabKTX 11\xbb\r\n\x1a\n", [0x0403_0201, 0, 1, 0, 0x8c02 + depth, 0x1908, width, height, 0, 0, 1, levels, 0])
+    } else {
+        (b"", [0x0352_5650, 0, 3 - 2 * depth, 0, 0, 0, height, width, 1, 1, 1, levels, 0])
+    };
+    identifier.iter().copied().chain(fields.iter().flat_map(|field| field.to_le_bytes())).collect()
+}
+
+// A file of a square plate with all its levels, and where the second one starts.
+fn file_with_levels(is_ktx: bool, side: usize, is2bpp: bool) -> (Vec<u8>, usize) {
+    let levels = side.ilog2() + 1;
+    let (mut file, mut starts) = (header(is_ktx, Shape { width: side, height: side, is2bpp }, levels), Vec::new());
+    for k in 0..levels {
+        let need = Shape { width: side >> k, height: side >> k, is2bpp }.need(STORED);
+        if is_ktx {
+            file.extend((need as u32).to_le_bytes());
+        }
+        starts.push(file.len());
+        file.extend(random_words(need / 8));
+    }
+    (file, starts[1])
+}
+
+// Level 1 of a plate of 2048 × 2048 by the level call, against the block call on the same bytes in the stored mode.
+fn measure_level(is_ktx: bool, is2bpp: bool) {
+    let (file, start) = file_with_levels(is_ktx, 2048, is2bpp);
+    let s = Shape { width: 1024, height: 1024, is2bpp };
+    let (picture, file) = (&Picture { data: &file[start..][..s.need(STORED)], s, words: "random" }, &file[..]);
+    let block = |image: &mut [u32]| (BUILDS[OURS_STORED].picture)(picture, image);
+    let level = |image: &mut [u32]| unsafe { plate_level(file.as_ptr(), file.len(), 1, image.as_mut_ptr(), image.len()) };
+    let (mut image, mut again) = (vec![0; s.texels()], vec![0; s.texels()]);
+    assert_eq!((block(&mut image), level(&mut again)), (0, 0));
+    assert!(image == again, "the level differs from the picture of its bytes");
+    let works: [Work; 2] = [
+        Box::new(move || assert_eq!(block(black_box(&mut image)), 0)),
+        Box::new(move || assert_eq!(level(black_box(&mut again)), 0)),
+    ];
+    let times: Vec<f64> = best_times(works.into()).iter().map(|time| time / s.texels() as f64).collect();
+    let kind = if is_ktx { "KTX" } else { "PVR" };
+    println!("| {} | {kind} | {:.2} | {:.2} | {:.3} |", s.bits(), times[0], times[1], times[1] / times[0]);
+}
+
+// The description of a level of the largest plate, told by a header alone.
+fn measure_description(level: u64, is2bpp: bool) {
+    let s = Shape { width: 65536, height: 65536, is2bpp };
+    let file = header(false, s, 17);
+    let field = |number| unsafe { plate_level_field(file.as_ptr(), file.len(), black_box(level), number) };
+    assert_eq!([field(0), field(1), field(2)], [0, 65536 >> level, 65536 >> level]);
+    let time = best_times(vec![Box::new(|| assert_ne!(field(4), 0))])[0];
+    println!("| {level} | {} | {time:.1} |", s.bits());
+}
+
+fn measure_levels() {
+    println!();
+    println!("| level 1 of 2048 × 2048, bits | file | the block call, ns a texel | the level call | level / block |");
+    println!("|---|---|---|---|---|");
+    for is2bpp in [false, true] {
+        measure_level(false, is2bpp);
+        measure_level(true, is2bpp);
+    }
+    println!();
+    println!("| a field of a level of 65536 × 65536 | bits | ns |");
+    println!("|---|---|---|");
+    for is2bpp in [false, true] {
+        measure_description(0, is2bpp);
+        measure_description(16, is2bpp);
+    }
+}
+
 fn main() {
     print_head();
     for is2bpp in [false, true] {
@@ -251,4 +328,5 @@ fn main() {
             }
         }
     }
+    measure_levels();
 }

@@ -14,6 +14,8 @@ extern "C" {
     pub fn plate_header(file: *const u8, len: usize, field: u32) -> u64;
     pub fn plate_ktx(file: *const u8, len: usize, field: u32) -> u64;
     pub fn plate_ktx_picture(file: *const u8, len: usize, image: *mut u32, room: usize) -> u64;
+    pub fn plate_level(file: *const u8, len: usize, level: u64, image: *mut u32, room: usize) -> u64;
+    pub fn plate_level_field(file: *const u8, len: usize, level: u64, field: u32) -> u64;
     pub fn plate_convert(file: *const u8, len: usize, image: *mut u32, room: usize, out: *mut u8, size: usize) -> u64;
 }
 

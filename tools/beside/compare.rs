@@ -2,8 +2,8 @@
 //
 // Our calls are lent memory that ends where a page may not be touched, with words before it that must stay. A picture is decoded by both, in the
 // Rust's mode and in the stored one; its rows, or one row if it is large, and a texel of each are then asked for by the other calls, and then the
-// same data is read as a KTX file, which is the stored mode. Where the original is no oracle (document 01's domain), the answer is held to
-// document 01's table of refusals, over the mode's grid.
+// same data is read as a KTX file, which is the stored mode. A level of a file must be the original's picture of its own bytes, cut out. Where the
+// original is no oracle (document 01's domain), the answer is held to document 01's table of refusals, over the mode's grid.
 
 extern crate color;
 
@@ -11,6 +11,7 @@ mod both;
 mod families;
 mod guarded;
 mod ktx;
+mod levels;
 mod pvr;
 mod shape;
 
@@ -140,16 +141,18 @@ impl Tally {
 }
 
 // What the cases are: each has its tally.
-const CASES: [&str; 4] = [
+const CASES: [&str; 5] = [
     "pictures in the Rust's mode",
     "pictures in the stored mode, the same grid",
     "pictures in the stored mode, a larger grid",
     "files refused by their header",
+    "levels of files",
 ];
 const RUSTS_GRID: usize = 0;
 const SAME_GRID: usize = 1;
 const LARGER_GRID: usize = 2;
 const BY_HEADER: usize = 3;
+const LEVELS: usize = 4;
 
 fn case_of(s: Shape, mode: u32) -> usize {
     match mode {
@@ -169,6 +172,7 @@ pub struct Comparison {
     by_original: u64,
     pvr: pvr::Counts,
     ktx: ktx::Counts,
+    levels: levels::Counts,
     smallest: Option<(usize, String)>,
     differences: u64,
     pub state: u64,
@@ -419,6 +423,7 @@ fn main() {
         by_original: 0,
         pvr: pvr::Counts::default(),
         ktx: ktx::Counts::default(),
+        levels: levels::Counts::default(),
         smallest: None,
         differences: 0,
         state: 0x2545_f491_4f6c_dd1d,
@@ -437,6 +442,7 @@ fn main() {
     c.print_cases();
     c.pvr.print();
     c.ktx.print();
+    c.levels.print();
     match c.smallest {
         None => println!("no difference"),
         Some((_, what)) => {

@@ -1,10 +1,11 @@
 // The families of inputs that are compared.
 
-use crate::ktx::{Reading, Wrap};
+use crate::ktx::{Reading, Wrap, IDENTIFIER};
+use crate::levels;
 use crate::shape::{Shape, RUSTS, STORED};
 use crate::Comparison;
 
-pub const ALL: [(&str, fn(&mut Comparison, usize)); 10] = [
+pub const ALL: [(&str, fn(&mut Comparison, usize)); 11] = [
     ("sizes 1 to 40 by 1 to 40", small_sizes),
     ("grids to 64 by 64 blocks, clipped", grids),
     ("data about 4n and 8n bytes of either mode, words about width x height", lengths),
@@ -14,6 +15,7 @@ pub const ALL: [(&str, fn(&mut Comparison, usize)); 10] = [
     ("sides that are refused", sides),
     ("a million damaged PVR files", damaged_files),
     ("half a million damaged KTX files", damaged_ktx_files),
+    ("two levels of each of half a million files", files_with_levels),
     ("the largest picture", largest_picture),
 ];
 
@@ -257,6 +259,123 @@ fn damaged_ktx_files(c: &mut Comparison, _: usize) {
             cut(c, &mut file);
         }
         c.ktx_file(&file);
+    }
+}
+
+// The sides of a plate with levels: mostly small, powers of two or not, at times long and thin, and now and then of telling size.
+fn drawn_sides(c: &mut Comparison) -> (usize, usize) {
+    const TELLING: [usize; 9] = [0, 1, 4, 1000, 32768, 65535, 65536, 65537, u32::MAX as usize];
+    let (kind, x, y) = (c.draw() % 32, c.draw() as usize, c.draw() as usize);
+    match kind {
+        0..=11 => (1 + x % 20, 1 + y % 20),
+        12..=21 => (1 << (x % 7), 1 << (y % 7)),
+        22..=25 => (1 + x % 100, 1 + y % 100),
+        26..=27 => (1 + x % 700, 1 + y % 4),
+        28..=29 => (1 + x % 4, 1 + y % 700),
+        _ => (TELLING[x % TELLING.len()], TELLING[y % TELLING.len()]),
+    }
+}
+
+// How many levels a file says: mostly as many as the sides allow, else fewer, or too many, or any number.
+fn drawn_count(c: &mut Comparison, most: u64) -> u32 {
+    let drawn = c.draw();
+    let count = match drawn % 16 {
+        0..=9 => most,
+        10..=12 => 1 + (drawn >> 8) % most,
+        13 => most + 1 + (drawn >> 8) % 3,
+        14 => 0,
+        _ => [drawn >> 32, u32::MAX as u64, 0x100 + most, most << 8][(drawn >> 8) as usize % 4],
+    };
+    count as u32
+}
+
+// What is asked for of so many levels: mostly one of them, else the next ones, or a number that a shift or 32 bits would take for another.
+fn asked_level(c: &mut Comparison, count: u32) -> u64 {
+    let (drawn, count) = (c.draw(), count as u64);
+    match drawn % 16 {
+        0..=13 => (drawn >> 8) % count.clamp(1, 17),
+        14 => count + (drawn >> 8) % 3,
+        _ => [16, 17, 32, 64, 65, 1 << 32, (1 << 32) + 1, 1 << 63, u64::MAX][(drawn >> 8) as usize % 9],
+    }
+}
+
+// The size word of a level: its need or, if it may be wrong, in half the levels another number.
+fn drawn_size_word(c: &mut Comparison, s: Shape, may_be_wrong: bool) -> u32 {
+    let (need, drawn) = (s.need(STORED), c.draw());
+    let others = [s.need(RUSTS), need ^ 1, need + 8, need / 4, levels::halved(s).need(STORED), need << 8, 0, usize::MAX, (drawn >> 32) as usize];
+    let wrong = may_be_wrong && drawn & 1 == 1;
+    (if wrong { others[(drawn >> 1) as usize % others.len()] } else { need }) as u32
+}
+
+// The levels of a plate, as many as are said and as a file of this size holds. Of those that it does not hold, some bytes of the first.
+fn level_bytes(c: &mut Comparison, s: Shape, count: u32, is_ktx: bool) -> Vec<u8> {
+    const ROOM: usize = 600_000;
+    let (mut s, mut all, may_be_wrong) = (s, Vec::new(), c.draw() % 3 == 0);
+    for _ in 0..count.clamp(1, 17) {
+        if is_ktx {
+            all.extend(drawn_size_word(c, s, may_be_wrong).to_le_bytes());
+        }
+        let (kind, held) = (c.draw() as usize, all.len() + s.need(STORED) <= ROOM);
+        all.extend(words(c, kind, if held { s.need(STORED) / 8 } else { kind % 64 }));
+        if !held {
+            break;
+        }
+        s = levels::halved(s);
+    }
+    all
+}
+
+// A file with levels: its bytes, and how many levels it says. Metadata or key/value bytes, and fields that have no effect, are drawn.
+fn file_with_levels(c: &mut Comparison) -> (Vec<u8>, u32) {
+    let ((width, height), drawn) = (drawn_sides(c), c.draw());
+    let s = Shape { width, height, is2bpp: drawn & 1 == 1 };
+    let (is_ktx, alpha) = (drawn >> 1 & 1 == 1, (drawn >> 2 & 1) as u32);
+    let (between, unread) = (Wrap::key_values(&mut c.state), [(); 2].map(|_| Wrap::unread(&mut c.state)));
+    let (count, skipped, depth) = (drawn_count(c, levels::most(s)), between.len() as u32, s.is2bpp as u32);
+    let mut file = Vec::new();
+    let fields: [u32; 13] = if is_ktx {
+        file.extend(IDENTIFIER);
+        [0x0403_0201, 0, unread[0], 0, 0x8c00 + depth + 2 * alpha, unread[1], width as u32, height as u32, 0, 0, 1, count, skipped]
+    } else {
+        [0x0352_5650, 0, 2 - 2 * depth + alpha, 0, unread[0], unread[1], height as u32, width as u32, 1, 1, 1, count, skipped]
+    };
+    file.extend(fields.iter().flat_map(|field| field.to_le_bytes()));
+    file.extend(between);
+    file.extend(level_bytes(c, s, count, is_ktx));
+    (file, count)
+}
+
+// Cuts a file at an edge of a level: of its size word, of its bytes, or one byte beside.
+fn cut_at_level(c: &mut Comparison, file: &mut Vec<u8>, level: u64) {
+    let read = levels::Reading { file, level };
+    if read.described() == 0 {
+        let ((s, start), drawn) = (read.place(), c.draw() as usize);
+        let edges = [start - 5, start - 4, start - 1, start, start + 1, start + s.need(STORED) - 1, start + s.need(STORED)];
+        file.truncate(edges[drawn % edges.len()]);
+    }
+}
+
+// Files with levels: fields set in one of eight, up to four bytes changed in another eighth, one in eight cut short anywhere, and one in eight at
+// an edge of the asked level. One in eight levels gets a word too few, and one in eight some more.
+fn files_with_levels(c: &mut Comparison, _: usize) {
+    for _ in 0..500_000 {
+        let (mut file, count) = file_with_levels(c);
+        let (drawn, level) = (c.draw(), asked_level(c, count));
+        let settings = if file.starts_with(&IDENTIFIER) { KTX } else { PVR };
+        match drawn & 7 {
+            0 => set_fields(c, &mut file, settings),
+            1 => damage(c, &mut file, if drawn >> 3 & 1 == 0 { 68 } else { usize::MAX }),
+            _ => (),
+        }
+        match drawn >> 4 & 7 {
+            0 => cut(c, &mut file),
+            1 => cut_at_level(c, &mut file, level),
+            _ => (),
+        }
+        let more = [-1, 7, 0, 0, 0, 0, 0, 0][(drawn >> 8) as usize & 7];
+        let another = asked_level(c, count);
+        c.level(&file, level, more);
+        c.level(&file, another, more);
     }
 }
 

@@ -6,7 +6,7 @@ use crate::both::{draw, plate_convert, plate_ktx, plate_ktx_picture};
 use crate::shape::{Shape, RUSTS, STORED};
 use crate::{before_stays, bytes, field, fill_old, first, line, stays_from, Comparison, Tally, BEFORE, BY_HEADER, LARGE, OUT, WORDS};
 
-const IDENTIFIER: [u8; 12] = [0xab, 0x4b, 0x54, 0x58, 0x20, 0x31, 0x31, 0xbb, 0x0d, 0x0a, 0x1a, 0x0a];
+pub const IDENTIFIER: [u8; 12] = [0xab, 0x4b, 0x54, 0x58, 0x20, 0x31, 0x31, 0xbb, 0x0d, 0x0a, 0x1a, 0x0a];
 
 // The refusals of each call, in document 02's order.
 const HEADER: [u64; 6] = [31, 32, 33, 34, 35, 37];
@@ -107,7 +107,7 @@ pub struct Wrap {
 
 impl Wrap {
     // Key/value bytes: mostly none or few, at times about the program's limit.
-    fn key_values(state: &mut u64) -> Vec<u8> {
+    pub fn key_values(state: &mut u64) -> Vec<u8> {
         let drawn = draw(state) as usize;
         let count = match drawn % 256 {
             0 => 4094 + (drawn >> 8) % 6,
@@ -118,7 +118,7 @@ impl Wrap {
     }
 
     // A field that has no effect: 0, 1, or any.
-    fn unread(state: &mut u64) -> u32 {
+    pub fn unread(state: &mut u64) -> u32 {
         let drawn = draw(state);
         let any = (drawn >> 32) as u32;
         if drawn & 1 == 0 { any >> 31 } else { any }

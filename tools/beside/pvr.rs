@@ -26,7 +26,7 @@ impl Counts {
 }
 
 // A PVR file, read plainly.
-struct Reading<'a>(&'a [u8]);
+pub struct Reading<'a>(pub &'a [u8]);
 
 impl<'a> Reading<'a> {
     fn field(&self, at: usize) -> usize {
@@ -41,7 +41,7 @@ impl<'a> Reading<'a> {
         self.0.get(self.payload()..).unwrap_or(&[])
     }
 
-    fn shape(&self) -> Shape {
+    pub fn shape(&self) -> Shape {
         Shape { width: self.field(28), height: self.field(24), is2bpp: self.field(8) < 2 }
     }
 
@@ -59,7 +59,7 @@ impl<'a> Reading<'a> {
         }
     }
 
-    fn header(&self) -> u64 {
+    pub fn header(&self) -> u64 {
         first(&HEADER, |number| self.faulty(number))
     }
 

@@ -1,8 +1,8 @@
 -- Two files that are alike in what a level is read from have the same level. Assumes nothing.
-use mathlib.Core.Path.{_≡_, refl, sym, ap, ap₂, subst, _∙_}
+use mathlib.Core.Path.{_≡_, refl, sym, ap, ap₂, _∙_}
 use mathlib.Core.Bool.{Bool, true, false, cond, _&&_, _||_}
 use mathlib.Core.List.{List, [], _∷_, _++_}
-use mathlib.Core.Logic.{_↔_, ⊎-elim}
+use mathlib.Core.Logic.{⊎-elim}
 use Prim.Native.Nat.{ℕ, _+_, _-_, _≤_, _<_}
 use native.Mathlib.Omega.{arith}
 use lib.Dec.{eqb, ltb, leb}
@@ -13,7 +13,7 @@ use Rattle.facts.specs.Checks.{Check, check, firstOf}
 use Rattle.facts.proofs.Checks.{first-append}
 use Rattle.facts.proofs.Lists.{choice}
 use Rattle.facts.proofs.Numbers.{lt-or-le}
-use Rattle.facts.proofs.Or.{or-left, or-right}
+use Rattle.facts.proofs.Or.{or-left}
 use Rattle.files.specs.Fields.{u32At}
 use Rattle.files.proofs.Fields.{same-field}
 use Rattle.files.proofs.Starts.{start-alike}

@@ -45,7 +45,7 @@ use Rattle.demands.specs.Levels.{headerBytes, isUnread, AlikeAt, Placing
 use Rattle.demands.specs.LocalCalls.{blocksOf, changed, mostTouched}
 use Rattle.demands.specs.LocalFiles.{DamagedAt, OnlyNear}
 use Rattle.demands.specs.NoEffect.{SameButFlags}
-use Rattle.demands.specs.Right.{placeIn, by-level, by-program}
+use Rattle.demands.specs.Right.{by-level, by-program}
 use Rattle.demands.proofs.Alike.{AlikeBefore, same-picture, same-start, same-refusal, same-level-of}
 use Rattle.demands.proofs.LocalCalls.{local-pictures}
 use Rattle.demands.proofs.LocalFiles.{only-near, in-front, other-blocks}

@@ -1,13 +1,12 @@
 -- How what a file's header answers of its levels is put together, and what it gives. Assumes nothing.
 use mathlib.Core.Path.{_≡_, refl, sym, ap, _∙_}
-use mathlib.Core.Bool.{Bool, true, false, cond}
-use mathlib.Core.List.{List, [], _∷_}
+use mathlib.Core.Bool.{Bool, true, false}
+use mathlib.Core.List.{List}
 use Prim.Native.Nat.{ℕ, _<_}
 use native.Mathlib.Omega.{arith}
-use lib.Dec.{eqb, ltb, T}
-use lib.ListN.{length}
+use lib.Dec.{eqb, T}
 use borrow.Author.Tests.{ne-eqb}
-use Rattle.facts.specs.Checks.{Check, check, firstOf, numbered}
+use Rattle.facts.specs.Checks.{Check, firstOf, numbered}
 use Rattle.facts.proofs.Checks.{said-first, said-later}
 use Rattle.facts.proofs.Lists.{choice}
 use Rattle.facts.proofs.Order.{holds-here, holds-later, none-left}
@@ -38,7 +37,6 @@ use Rattle.levels.specs.declared.Levels.{Levels}
 use Rattle.levels.specs.declared.Refusal.{Refusal}
 use Rattle.levels.specs.declared.Refusal.the-variants.{Pvr, Ktx, Picture, TooManyLevels, NoSuchLevel, OtherSize}
 use Rattle.levels.specs.Inner.{calledAs, foundNumber, foundLevels, FoundBehind, PvrFound, KtxFound, LevelsFound}
-use Rattle.levels.specs.Levels.{pvrLevels, ktxLevels, levelsIn}
 use Rattle.levels.specs.Refusals.{ktxHeaderChecks, headerChecks, numberOf, decodedNumber}
 use Rattle.levels.proofs.Ranges.{as-pvr, as-ktx}
 

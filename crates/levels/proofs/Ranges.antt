@@ -17,7 +17,7 @@ use Rattle.pvrtc.proofs.Accepted.{width-above, height-above, few-across, few-do
 use Rattle.levels.specs.declared.Levels.{Levels}
 use Rattle.levels.specs.Inner.{firstLevel, nextLevel, Walks, Small}
 use Rattle.levels.specs.Levels.{pvrLevels, ktxLevels, levelsIn, halved, plateIn, pictureAt, needAt, sizeWordBytes, takenBy, startAt, levelAt}
-use Rattle.levels.specs.Ranges.{endAt, Ranges, PvrRanges, KtxRanges, FileRanges, IsOne, Allowed, Reckoned}
+use Rattle.levels.specs.Ranges.{endAt, Ranges, PvrRanges, KtxRanges, FileRanges, Allowed, Reckoned}
 use Rattle.levels.specs.Refusals.{mostLevels}
 use Rattle.levels.proofs.Halving.{halved-small, log2-small, halved-out, halved-before}
 

@@ -1,13 +1,13 @@
 -- From what a header, the plate's levels and a size word say to the promise for a level of a file. Assumes nothing.
 use mathlib.Core.Path.{_≡_, refl, sym, ap, _∙_}
-use mathlib.Core.Bool.{Bool, true, false, _||_}
-use mathlib.Core.List.{List, [], _∷_, _++_}
+use mathlib.Core.Bool.{true, false}
+use mathlib.Core.List.{List, [], _++_}
 use Prim.Native.Nat.{ℕ, _-_, _≤_, _<_, min}
 use native.Mathlib.Omega.{arith}
 use lib.Dec.{T, eqb}
 use lib.ListN.{length, take, drop}
 use borrow.Author.Tests.{ne-eqb, ltb-false, leb-false}
-use Rattle.facts.specs.Checks.{Check, check, firstOf, numbered, condition}
+use Rattle.facts.specs.Checks.{Check, firstOf, numbered, condition}
 use Rattle.facts.proofs.Checks.{none-said, neither-said, said-first, said-later, numbered-append}
 use Rattle.facts.proofs.Lists.{choice}
 use Rattle.facts.proofs.Order.{none-left}

@@ -1,5 +1,5 @@
 -- `levels::check::check_levels` meets its contract. Assumes nothing.
-use mathlib.Core.Path.{_≡_, sym, ap, _∙_}
+use mathlib.Core.Path.{sym, ap, _∙_}
 use borrow.Author.Needs.{needs}
 use Rattle.facts.proofs.Checks.{none-said, said-first, said-later}
 use Rattle.pvrtc.specs.Refusals.{sizeChecks}
