@@ -6,12 +6,14 @@ pub use decoder::decode_ktx;
 pub use decoder::decoded_number;
 pub use reader::check_fields;
 pub use reader::header_refusal_number;
+pub use reader::height_field;
 pub use reader::is_ktx;
+pub use reader::is_two;
 pub use reader::level_count;
 pub use reader::read_header;
 pub use reader::read_plate;
 pub use reader::size_place;
-pub use reader::stored_plate;
+pub use reader::width_field;
 
 // Why a header is refused, in document 02's words.
 pub enum HeaderRefusal {

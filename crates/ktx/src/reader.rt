@@ -6,7 +6,7 @@ ghost use mathlib.Core.Path.{_≡_};
 ghost use Prim.Native.Nat.{_<_};
 ghost use Rattle.files.specs.Reading.{readingOf};
 ghost use Rattle.ktx.specs.Header.{isKtx, hasFourBits, hasTwoBits, isPvrtc, unknownFormat, notOnePlate};
-ghost use Rattle.ktx.specs.Header.{levelCount, sizePlace, sizeWord, numberOf, HeaderRead};
+ghost use Rattle.ktx.specs.Header.{widthField, heightField, isTwo, levelCount, sizePlace, sizeWord, numberOf, HeaderRead};
 ghost use Rattle.ktx.specs.Inner.{FieldsSay};
 ghost use Rattle.ktx.specs.Reading.{ktxPlate, ktxSays};
 use files::Reading;
@@ -121,6 +121,27 @@ pub fn check_fields(file: &[u8]) -> Fields
     Fields::Fine
 }
 
+// The width, at 36.
+pub fn width_field(file: &[u8]) -> u32
+    ensures { λ r. ⌜ (r ≡ widthField (now (file .entry))) × (r < 4294967296) ⌝ }
+{
+    files::u32_at(file, 36)
+}
+
+// The height, at 40.
+pub fn height_field(file: &[u8]) -> u32
+    ensures { λ r. ⌜ (r ≡ heightField (now (file .entry))) × (r < 4294967296) ⌝ }
+{
+    files::u32_at(file, 40)
+}
+
+// Whether the plate is 2bpp, by the internal format at 28.
+pub fn is_two(file: &[u8]) -> bool
+    ensures { λ r. ⌜ r ≡ isTwo (now (file .entry)) ⌝ }
+{
+    is_2bpp(files::u32_at(file, 28))
+}
+
 // How many levels the file says that it holds, by the field at 56: none means one.
 pub fn level_count(file: &[u8]) -> u32
     ensures { λ r. ⌜ (r ≡ levelCount (now (file .entry))) × (r < 4294967296) ⌝ }
@@ -143,20 +164,19 @@ fn size_word(file: &[u8]) -> u32
     files::u32_at(file, size_place(file))
 }
 
-// The plate that the fields describe: the internal format at 28, the width at 36, the height at 40.
-pub fn stored_plate(file: &[u8]) -> Stored
+// The plate that the fields describe.
+fn stored_plate(file: &[u8]) -> Stored
     ensures { λ r. ⌜ r ≡ ktxPlate (now (file .entry)) ⌝ }
 {
-    let format = files::u32_at(file, 28);
-    let width = files::u32_at(file, 36) as usize;
-    let height = files::u32_at(file, 40) as usize;
+    let width = width_field(file) as usize;
+    let height = height_field(file) as usize;
     let place = size_place(file);
     let skipped = place - 64;
     let payload = place + 4;
     Stored {
         width: width,
         height: height,
-        is2bpp: is_2bpp(format),
+        is2bpp: is_two(file),
         skipped: skipped,
         cut: file.len() < payload,
         size: Size::Bytes(size_word(file)),

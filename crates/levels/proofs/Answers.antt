@@ -10,7 +10,6 @@ use Rattle.facts.specs.Checks.{Check, firstOf, numbered}
 use Rattle.facts.proofs.Checks.{said-first, said-later}
 use Rattle.facts.proofs.Lists.{choice}
 use Rattle.facts.proofs.Order.{holds-here, holds-later, none-left}
-use Rattle.files.specs.declared.Stored.{Stored}
 use Rattle.pvr.specs.Header as pvr
 use Rattle.pvr.specs.declared.Header.{Header}
 use Rattle.pvr.specs.declared.Header.the-variants as header
@@ -19,7 +18,6 @@ use Rattle.pvr.proofs.Answers as pvr-header
 use Rattle.ktx.specs.Header as ktx
 use Rattle.ktx.specs.Header.{isKtx}
 use Rattle.ktx.specs.Inner.{fieldsNumber, FieldsSay}
-use Rattle.ktx.specs.Reading.{ktxPlate}
 use Rattle.ktx.specs.declared.Fields.{Fields}
 use Rattle.ktx.specs.declared.Fields.the-variants as fields
 use Rattle.ktx.specs.declared.HeaderRefusal.{HeaderRefusal as KtxRefusal}
@@ -102,12 +100,11 @@ module _ (file : List ℕ) {r : Fields} (says : FieldsSay file r) where
     pub ktx-cut : ktx.keyValuesCut file ≡ true → KtxFound file (found.Refused (Ktx CutShort))
     ktx-cut cut = by-refusal (said-later (ktx.fieldChecks file) _ tt none (holds-here _ _ _ cut))
 
-    pub ktx-found : {s : Stored} {count start : ℕ} → ktx.keyValuesCut file ≡ false → s ≡ ktxPlate file → count ≡ ktx.levelCount file
-        → (start ≡ ktx.sizePlace file) × (start < 4294967360)
-        → KtxFound file
-        (found.Levels (record { width = s .width; height = s .height; is2bpp = s .is2bpp; count = count; start = start; sized = true }))
-    ktx-found whole plate many place =
-        by-levels (said-later (ktx.fieldChecks file) _ tt none (holds-later _ _ _ whole none-left)) (rw (plate, many, place .0) refl) (place .1)
+    pub ktx-found : {w h : ℕ} {two : Bool} {count start : ℕ} → ktx.keyValuesCut file ≡ false → w ≡ ktx.widthField file → h ≡ ktx.heightField file
+        → count ≡ ktx.levelCount file → two ≡ ktx.isTwo file → (start ≡ ktx.sizePlace file) × (start < 4294967360)
+        → KtxFound file (found.Levels (record { width = w; height = h; is2bpp = two; count = count; start = start; sized = true }))
+    ktx-found whole ew eh many depth place =
+        by-levels (said-later (ktx.fieldChecks file) _ tt none (holds-later _ _ _ whole none-left)) (rw (ew, eh, depth, many, place .0) refl) (place .1)
 
 -- a file of either kind
 module _ (file : List ℕ) where

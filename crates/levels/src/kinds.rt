@@ -43,12 +43,13 @@ fn ktx_levels(file: &[u8]) -> Found
     if file.len() < start {
         return Found::Refused(Refusal::Ktx(ktx::HeaderRefusal::CutShort));
     }
-    let s = ktx::stored_plate(file);
+    let width = ktx::width_field(file) as usize;
+    let height = ktx::height_field(file) as usize;
     let count = ktx::level_count(file) as usize;
     Found::Levels(Levels {
-        width: s.width,
-        height: s.height,
-        is2bpp: s.is2bpp,
+        width: width,
+        height: height,
+        is2bpp: ktx::is_two(file),
         count: count,
         start: start,
         sized: true,

@@ -39,8 +39,17 @@ returns-2 c =
     ktx-cut file (k .before .before .before .check-fields .ensures) (k .before .enum-told .given .1)
     (cut-at (length file) (k .size-place .ensures .0) (lt-ltb _ _ (c .if1 .taken)))
 
-stored-plate-requires : tie.Need-stored-plate-requires
-stored-plate-requires c κs = search needs
+width-field-requires : tie.Need-width-field-requires
+width-field-requires c κs = search needs
+
+cast-width : tie.Need-cast-width
+cast-width c = search needs
+
+height-field-requires : tie.Need-height-field-requires
+height-field-requires c κs = search needs
+
+cast-height : tie.Need-cast-height
+cast-height c = search needs
 
 level-count-requires : tie.Need-level-count-requires
 level-count-requires c κs = search needs
@@ -48,14 +57,19 @@ level-count-requires c κs = search needs
 cast-count : tie.Need-cast-count
 cast-count c = search needs
 
+is-two-requires : tie.Need-is-two-requires
+is-two-requires c κs = search needs
+
 returns-3 : tie.Need-returns-3
 returns-3 c =
-    let past = c .before .before in
+    let count = c .before in
+    let height = count .before in
+    let past = height .before .before in
     let k = past .before in
     let file = now (k .before .before .before .before .before .args .file) in
     ktx-found file (k .before .before .before .check-fields .ensures) (k .before .enum-told .given .1)
-    (cut-at (length file) (k .size-place .ensures .0) (le-ltb _ _ (past .if1 .left))) (c .before .stored-plate .ensures)
-    (c .level-count .ensures .0) (k .size-place .ensures)
+    (cut-at (length file) (k .size-place .ensures .0) (le-ltb _ _ (past .if1 .left)))
+    (height .before .width-field .ensures .0) (height .height-field .ensures .0) (count .level-count .ensures .0) (c .is-two .ensures) (k .size-place .ensures)
 
 pub ktx-levels-spec : {M : Type 1} → statement M
 ktx-levels-spec =
@@ -67,7 +81,11 @@ ktx-levels-spec =
     enum-told
     size-place-requires
     returns-2
-    stored-plate-requires
+    width-field-requires
+    cast-width
+    height-field-requires
+    cast-height
     level-count-requires
     cast-count
+    is-two-requires
     returns-3)
