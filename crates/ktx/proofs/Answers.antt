@@ -1,6 +1,6 @@
 -- How the promise of reading a header is met, and what it gives. Assumes nothing.
-use mathlib.Core.Path.{_≡_, sym, ap, _∙_}
-use mathlib.Core.Bool.{Bool, true, false}
+use mathlib.Core.Path.{_≡_, refl, sym, ap, _∙_}
+use mathlib.Core.Bool.{Bool, true, false, cond}
 use mathlib.Core.List.{List}
 use mathlib.Core.Logic.{_↔_}
 use Prim.Native.Nat.{ℕ, _<_}
@@ -22,10 +22,12 @@ use Rattle.ktx.specs.declared.HeaderRefusal.{HeaderRefusal}
 use Rattle.ktx.specs.declared.HeaderRefusal.the-variants.{ShortHeader, NotKtx, OtherByteOrder, UnknownFormat, NotOnePlate, CutShort}
 use Rattle.ktx.specs.declared.Fields.{Fields}
 use Rattle.ktx.specs.declared.Fields.the-variants as fields
+use Rattle.ktx.specs.declared.reader.Checked.{Checked}
+use Rattle.ktx.specs.declared.reader.Checked.the-variants as checked
 use Rattle.ktx.specs.Header.{widthField, heightField, isTwo, payloadOffset, sizeWord, cutShort}
 use Rattle.ktx.specs.Header.{fieldChecks, headerChecks, headerRefusal, numberOf, headerNumber, HeaderRead}
-use Rattle.ktx.specs.Inner.{fieldsNumber, FieldsSay}
-use Rattle.ktx.specs.Reading.{ktxPlate, ktxSays}
+use Rattle.ktx.specs.Inner.{checkedNumber, FieldsSay, headerOf}
+use Rattle.ktx.specs.Reading.{ktxPlate, ktxSays, fieldsNumber, fieldsPlate, FieldsRead}
 
 -- a refusal's number is not 0
 pub number-above : (f : HeaderRefusal) → 0 < numberOf f
@@ -76,11 +78,24 @@ module _ {file : List ℕ} where
           said = rw e at (p .size);
         }
 
--- from what the fields say to the header's answer, and to the one for the program
-module _ (file : List ℕ) {r : Fields} (says : FieldsSay file r) where
+-- what the fields' reader answers, by what they say
+module _ (file : List ℕ) {r : Checked} (says : FieldsSay file r) where
+  pub fields-refused : {f : HeaderRefusal} → r ≡ checked.Refused f → FieldsRead file (fields.Refused f)
+  fields-refused {f} e =
+      let first : numberOf f ≡ firstOf (fieldChecks file) = sym (ap checkedNumber e) ∙ says in
+      let n : eqb (firstOf (fieldChecks file)) 0 ≡ false = ne-eqb (firstOf (fieldChecks file)) 0 (omega (arith, number-above f)) in
+      record { number = first; plate = rw n refl }
+
+  pub fields-read : {s : Stored} → r ≡ checked.Fine → s ≡ ktxPlate file → FieldsRead file (fields.Plate s)
+  fields-read e q =
+      let none : 0 ≡ firstOf (fieldChecks file) = sym (ap checkedNumber e) ∙ says in
+      record { number = none; plate = rw (← none) q }
+
+-- from what it answers to the header's answer, and to the one for the program
+module _ (file : List ℕ) {r : Fields} (read : FieldsRead file r) where
   module _ {f : HeaderRefusal} (e : r ≡ fields.Refused f) where
-    first : numberOf f ≡ firstOf (fieldChecks file)
-    first = sym (ap fieldsNumber e) ∙ says
+    pub first : numberOf f ≡ firstOf (fieldChecks file)
+    first = sym (ap fieldsNumber e) ∙ read .number
 
     pub by-fields : HeaderRead file (Refused f)
     by-fields = by-refusal (said-first (fieldChecks file) _ tt first (number-above f))
@@ -88,18 +103,33 @@ module _ (file : List ℕ) {r : Fields} (says : FieldsSay file r) where
     pub number-shown : {n : ℕ} → n ≡ numberOf f → reading.Refused n ≡ readingOf (ktxSays file)
     number-shown q = answers.by-number (ktxSays file) (q ∙ first) (omega (arith, number-above f))
 
-  module _ (e : r ≡ fields.Fine) where
-    none : 0 ≡ firstOf (fieldChecks file)
-    none = sym (ap fieldsNumber e) ∙ says
+  module _ {s : Stored} (e : r ≡ fields.Plate s) where
+    pub none : 0 ≡ firstOf (fieldChecks file)
+    none = sym (ap fieldsNumber e) ∙ read .number
 
-    pub by-cut : cutShort file ≡ true → HeaderRead file (Refused CutShort)
-    by-cut cut = by-refusal (said-later (fieldChecks file) _ tt none (holds-here _ _ _ cut))
+    pub is-plate : s ≡ ktxPlate file
+    is-plate = sym (ap fieldsPlate e) ∙ read .plate ∙ rw (← none) refl
 
-    pub past-all : cutShort file ≡ false → headerRefusal file ≡ 0
-    past-all whole = sym (said-later (fieldChecks file) _ tt none (holds-later _ _ _ whole none-left))
+    pub plate-shown : reading.Plate s ≡ readingOf (ktxSays file)
+    plate-shown = answers.by-plate (ktxSays file) none is-plate
 
-    pub plate-shown : {s : Stored} → s ≡ ktxPlate file → reading.Plate s ≡ readingOf (ktxSays file)
-    plate-shown q = answers.by-plate (ktxSays file) none q
+    -- the header's answer for that plate
+    pub by-stored : {h : Header} → h ≡ headerOf s → HeaderRead file h
+    by-stored q = rw (q ∙ ap headerOf is-plate) (by (cutShort file) refl)
+      where
+        by : (t : Bool) → cutShort file ≡ t
+            → HeaderRead file (cond t (Refused CutShort) (Plate (widthField file) (heightField file) (isTwo file) (payloadOffset file) (sizeWord file)))
+        by true cut = by-refusal (said-later (fieldChecks file) _ tt none (holds-here _ _ _ cut))
+        by false whole =
+            by-plate
+            (record {
+              accepted = sym (said-later (fieldChecks file) _ tt none (holds-later _ _ _ whole none-left));
+              width = refl;
+              height = refl;
+              depth = refl;
+              payload = refl;
+              said = refl;
+            })
 
 -- each number is given exactly when its condition holds and no earlier one does
 pub refused-when : {file : List ℕ} {r : Header} → HeaderRead file r → (n : ℕ) → 0 < n → (headerNumber r ≡ n) ↔ Given (headerChecks file) n

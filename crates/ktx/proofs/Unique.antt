@@ -16,8 +16,8 @@ use Rattle.ktx.specs.declared.Header.the-variants.{Plate, Refused}
 use Rattle.ktx.specs.declared.HeaderRefusal.{HeaderRefusal}
 use Rattle.ktx.specs.declared.HeaderRefusal.the-variants.{ShortHeader, NotKtx, OtherByteOrder, UnknownFormat, NotOnePlate, CutShort}
 use Rattle.ktx.specs.Header.{numberOf, headerNumber, headerWidth, headerHeight, headerBits, headerPayload, headerSizeWord, HeaderRead}
-use Rattle.ktx.specs.Inner.{fieldsNumber, FieldsSay}
 use Rattle.ktx.specs.Picture.{decodedNumber, KtxDecoded}
+use Rattle.ktx.specs.Reading.{fieldsNumber, fieldsPlate, FieldsRead}
 use Rattle.ktx.proofs.Answers.{number-above}
 
 -- a refusal's number tells which it is
@@ -38,15 +38,15 @@ back CutShort = refl
 pub same-refusal : (f g : HeaderRefusal) → numberOf f ≡ numberOf g → f ≡ g
 same-refusal f g e = sym (back f) ∙ ap ofNumber e ∙ back g
 
--- so what the fields say is one answer
-pub one-fields : (file : List ℕ) (r s : Fields) → FieldsSay file r → FieldsSay file s → r ≡ s
-one-fields file r s a b = same-fields r s (a ∙ sym b)
-  where
-    same-fields : (r s : Fields) → fieldsNumber r ≡ fieldsNumber s → r ≡ s
-    same-fields fields.Fine fields.Fine e = refl
-    same-fields fields.Fine (fields.Refused g) e = absurd (omega (arith, number-above g))
-    same-fields (fields.Refused f) fields.Fine e = absurd (omega (arith, number-above f))
-    same-fields (fields.Refused f) (fields.Refused g) e = ap fields.Refused (same-refusal f g e)
+-- so the fields' reader has one answer
+same-fields : (r s : Fields) → fieldsNumber r ≡ fieldsNumber s → fieldsPlate r ≡ fieldsPlate s → r ≡ s
+same-fields (fields.Plate p) (fields.Plate q) e h = ap fields.Plate h
+same-fields (fields.Plate p) (fields.Refused g) e h = absurd (omega (arith, number-above g))
+same-fields (fields.Refused f) (fields.Plate q) e h = absurd (omega (arith, number-above f))
+same-fields (fields.Refused f) (fields.Refused g) e h = ap fields.Refused (same-refusal f g e)
+
+pub one-fields : (file : List ℕ) (r s : Fields) → FieldsRead file r → FieldsRead file s → r ≡ s
+one-fields file r s a b = same-fields r s (a .number ∙ sym (b .number)) (a .plate ∙ sym (b .plate))
 
 -- answers with the same number and the same values are the same
 same-header : (r s : Header) → headerNumber r ≡ headerNumber s → headerWidth r ≡ headerWidth s → headerHeight r ≡ headerHeight s

@@ -4,16 +4,14 @@ mod reader;
 
 pub use decoder::decode_ktx;
 pub use decoder::decoded_number;
-pub use reader::check_fields;
+use files::Stored;
 pub use reader::header_refusal_number;
-pub use reader::height_field;
 pub use reader::is_ktx;
-pub use reader::is_two;
 pub use reader::level_count;
+pub use reader::read_fields;
 pub use reader::read_header;
 pub use reader::read_plate;
 pub use reader::size_place;
-pub use reader::width_field;
 
 // Why a header is refused, in document 02's words.
 pub enum HeaderRefusal {
@@ -25,9 +23,9 @@ pub enum HeaderRefusal {
     CutShort,
 }
 
-// What the header's fields say by themselves.
+// What reading the header's fields answers: the plate that they describe, cut short or not, or a refusal.
 pub enum Fields {
-    Fine,
+    Plate(Stored),
     Refused(HeaderRefusal),
 }
 

@@ -6,12 +6,18 @@ ghost use mathlib.Core.Path.{_≡_};
 ghost use Prim.Native.Nat.{_<_};
 ghost use Rattle.files.specs.Reading.{readingOf};
 ghost use Rattle.ktx.specs.Header.{isKtx, hasFourBits, hasTwoBits, isPvrtc, unknownFormat, notOnePlate};
-ghost use Rattle.ktx.specs.Header.{widthField, heightField, isTwo, levelCount, sizePlace, sizeWord, numberOf, HeaderRead};
-ghost use Rattle.ktx.specs.Inner.{FieldsSay};
-ghost use Rattle.ktx.specs.Reading.{ktxPlate, ktxSays};
+ghost use Rattle.ktx.specs.Header.{levelCount, sizePlace, sizeWord, numberOf, HeaderRead};
+ghost use Rattle.ktx.specs.Inner.{FieldsSay, saidBytes, headerOf};
+ghost use Rattle.ktx.specs.Reading.{ktxPlate, FieldsRead, ktxSays};
 use files::Reading;
 use files::Size;
 use files::Stored;
+
+// What the header's fields say by themselves.
+enum Checked {
+    Fine,
+    Refused(HeaderRefusal),
+}
 
 // The bytes that a header begins with.
 const IDENTIFIER: [u8; 12] = [
@@ -100,46 +106,25 @@ fn is_not_one_plate(file: &[u8]) -> bool
 }
 
 // The first refusal of the fields whose condition holds.
-pub fn check_fields(file: &[u8]) -> Fields
+fn check_fields(file: &[u8]) -> Checked
     ensures { λ r. ⌜ FieldsSay (now (file .entry)) r ⌝ }
 {
     if file.len() < 64 {
-        return Fields::Refused(HeaderRefusal::ShortHeader);
+        return Checked::Refused(HeaderRefusal::ShortHeader);
     }
     if !files::starts_with(file, &IDENTIFIER) {
-        return Fields::Refused(HeaderRefusal::NotKtx);
+        return Checked::Refused(HeaderRefusal::NotKtx);
     }
     if files::u32_at(file, 12) != 0x04030201 {
-        return Fields::Refused(HeaderRefusal::OtherByteOrder);
+        return Checked::Refused(HeaderRefusal::OtherByteOrder);
     }
     if is_unknown_format(file) {
-        return Fields::Refused(HeaderRefusal::UnknownFormat);
+        return Checked::Refused(HeaderRefusal::UnknownFormat);
     }
     if is_not_one_plate(file) {
-        return Fields::Refused(HeaderRefusal::NotOnePlate);
+        return Checked::Refused(HeaderRefusal::NotOnePlate);
     }
-    Fields::Fine
-}
-
-// The width, at 36.
-pub fn width_field(file: &[u8]) -> u32
-    ensures { λ r. ⌜ (r ≡ widthField (now (file .entry))) × (r < 4294967296) ⌝ }
-{
-    files::u32_at(file, 36)
-}
-
-// The height, at 40.
-pub fn height_field(file: &[u8]) -> u32
-    ensures { λ r. ⌜ (r ≡ heightField (now (file .entry))) × (r < 4294967296) ⌝ }
-{
-    files::u32_at(file, 40)
-}
-
-// Whether the plate is 2bpp, by the internal format at 28.
-pub fn is_two(file: &[u8]) -> bool
-    ensures { λ r. ⌜ r ≡ isTwo (now (file .entry)) ⌝ }
-{
-    is_2bpp(files::u32_at(file, 28))
+    Checked::Fine
 }
 
 // How many levels the file says that it holds, by the field at 56: none means one.
@@ -164,19 +149,20 @@ fn size_word(file: &[u8]) -> u32
     files::u32_at(file, size_place(file))
 }
 
-// The plate that the fields describe.
+// The plate that the fields describe: the internal format at 28, the width at 36, the height at 40.
 fn stored_plate(file: &[u8]) -> Stored
     ensures { λ r. ⌜ r ≡ ktxPlate (now (file .entry)) ⌝ }
 {
-    let width = width_field(file) as usize;
-    let height = height_field(file) as usize;
+    let format = files::u32_at(file, 28);
+    let width = files::u32_at(file, 36) as usize;
+    let height = files::u32_at(file, 40) as usize;
     let place = size_place(file);
     let skipped = place - 64;
     let payload = place + 4;
     Stored {
         width: width,
         height: height,
-        is2bpp: is_two(file),
+        is2bpp: is_2bpp(format),
         skipped: skipped,
         cut: file.len() < payload,
         size: Size::Bytes(size_word(file)),
@@ -184,24 +170,52 @@ fn stored_plate(file: &[u8]) -> Stored
     }
 }
 
-// The sizes, the depth, the payload offset and the size word of the plate that a file holds, or the first refusal whose condition holds.
-pub fn read_header(file: &[u8]) -> Header
-    ensures { λ r. ⌜ HeaderRead (now (file .entry)) r ⌝ }
+// The size that a plate is said to have.
+fn said_bytes(size: Size) -> u32
+    ensures { λ r. ⌜ r ≡ saidBytes size ⌝ }
 {
-    let fields = check_fields(file);
-    if let Fields::Refused(f) = fields {
-        return Header::Refused(f);
+    match size {
+        Size::Unsaid => 0,
+        Size::Bytes(n) => n,
     }
-    let s = stored_plate(file);
+}
+
+// A plate as a header's answer: refused where it is cut short.
+fn header_of(s: Stored) -> Header
+    ensures { λ r. ⌜ r ≡ headerOf s ⌝ }
+{
     if s.cut {
         return Header::Refused(HeaderRefusal::CutShort);
     }
+    let said = s.size;
     Header::Plate {
         width: s.width,
         height: s.height,
         is2bpp: s.is2bpp,
         payload: s.payload,
-        size: size_word(file),
+        size: said_bytes(said),
+    }
+}
+
+// The plate that the fields describe, or the first refusal of theirs whose condition holds.
+pub fn read_fields(file: &[u8]) -> Fields
+    ensures { λ r. ⌜ FieldsRead (now (file .entry)) r ⌝ }
+{
+    let checked = check_fields(file);
+    match checked {
+        Checked::Refused(f) => Fields::Refused(f),
+        Checked::Fine => Fields::Plate(stored_plate(file)),
+    }
+}
+
+// The sizes, the depth, the payload offset and the size word of the plate that a file holds, or the first refusal whose condition holds.
+pub fn read_header(file: &[u8]) -> Header
+    ensures { λ r. ⌜ HeaderRead (now (file .entry)) r ⌝ }
+{
+    let fields = read_fields(file);
+    match fields {
+        Fields::Refused(f) => Header::Refused(f),
+        Fields::Plate(s) => header_of(s),
     }
 }
 
@@ -209,9 +223,9 @@ pub fn read_header(file: &[u8]) -> Header
 pub fn read_plate(file: &[u8]) -> Reading
     ensures { λ r. ⌜ r ≡ readingOf (ktxSays (now (file .entry))) ⌝ }
 {
-    let fields = check_fields(file);
+    let fields = read_fields(file);
     match fields {
         Fields::Refused(f) => Reading::Refused(header_refusal_number(f)),
-        Fields::Fine => Reading::Plate(stored_plate(file)),
+        Fields::Plate(s) => Reading::Plate(s),
     }
 }

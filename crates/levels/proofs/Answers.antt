@@ -10,6 +10,7 @@ use Rattle.facts.specs.Checks.{Check, firstOf, numbered}
 use Rattle.facts.proofs.Checks.{said-first, said-later}
 use Rattle.facts.proofs.Lists.{choice}
 use Rattle.facts.proofs.Order.{holds-here, holds-later, none-left}
+use Rattle.files.specs.declared.Stored.{Stored}
 use Rattle.pvr.specs.Header as pvr
 use Rattle.pvr.specs.declared.Header.{Header}
 use Rattle.pvr.specs.declared.Header.the-variants as header
@@ -17,7 +18,7 @@ use Rattle.pvr.specs.declared.HeaderRefusal.{HeaderRefusal as PvrRefusal}
 use Rattle.pvr.proofs.Answers as pvr-header
 use Rattle.ktx.specs.Header as ktx
 use Rattle.ktx.specs.Header.{isKtx}
-use Rattle.ktx.specs.Inner.{fieldsNumber, FieldsSay}
+use Rattle.ktx.specs.Reading.{FieldsRead}
 use Rattle.ktx.specs.declared.Fields.{Fields}
 use Rattle.ktx.specs.declared.Fields.the-variants as fields
 use Rattle.ktx.specs.declared.HeaderRefusal.{HeaderRefusal as KtxRefusal}
@@ -89,22 +90,21 @@ module _ (file : List ℕ) {r : Header} (read : pvr.HeaderRead file r) where
       by-levels (sym (p .accepted)) (rw (p .width, p .height, p .depth, many, place .0) refl) (omega (arith, place .1))
 
 -- a KTX file
-module _ (file : List ℕ) {r : Fields} (says : FieldsSay file r) where
+module _ (file : List ℕ) {r : Fields} (read : FieldsRead file r) where
   pub ktx-refused : {f : KtxRefusal} → r ≡ fields.Refused f → KtxFound file (found.Refused (Ktx f))
-  ktx-refused {f} e = by-refusal (said-first (ktx.fieldChecks file) _ tt (sym (ap fieldsNumber e) ∙ says) (ktx-header.number-above f))
+  ktx-refused {f} e = by-refusal (said-first (ktx.fieldChecks file) _ tt (ktx-header.first file read e) (ktx-header.number-above f))
 
-  module _ (e : r ≡ fields.Fine) where
-    none : 0 ≡ firstOf (ktx.fieldChecks file)
-    none = sym (ap fieldsNumber e) ∙ says
-
+  module _ {s : Stored} (e : r ≡ fields.Plate s) where
     pub ktx-cut : ktx.keyValuesCut file ≡ true → KtxFound file (found.Refused (Ktx CutShort))
-    ktx-cut cut = by-refusal (said-later (ktx.fieldChecks file) _ tt none (holds-here _ _ _ cut))
+    ktx-cut cut = by-refusal (said-later (ktx.fieldChecks file) _ tt (ktx-header.none file read e) (holds-here _ _ _ cut))
 
-    pub ktx-found : {w h : ℕ} {two : Bool} {count start : ℕ} → ktx.keyValuesCut file ≡ false → w ≡ ktx.widthField file → h ≡ ktx.heightField file
-        → count ≡ ktx.levelCount file → two ≡ ktx.isTwo file → (start ≡ ktx.sizePlace file) × (start < 4294967360)
-        → KtxFound file (found.Levels (record { width = w; height = h; is2bpp = two; count = count; start = start; sized = true }))
-    ktx-found whole ew eh many depth place =
-        by-levels (said-later (ktx.fieldChecks file) _ tt none (holds-later _ _ _ whole none-left)) (rw (ew, eh, depth, many, place .0) refl) (place .1)
+    pub ktx-found : {count start : ℕ} → ktx.keyValuesCut file ≡ false → count ≡ ktx.levelCount file
+        → (start ≡ ktx.sizePlace file) × (start < 4294967360)
+        → KtxFound file
+        (found.Levels (record { width = s .width; height = s .height; is2bpp = s .is2bpp; count = count; start = start; sized = true }))
+    ktx-found whole many place =
+        by-levels (said-later (ktx.fieldChecks file) _ tt (ktx-header.none file read e) (holds-later _ _ _ whole none-left))
+        (rw (ktx-header.is-plate file read e, many, place .0) refl) (place .1)
 
 -- a file of either kind
 module _ (file : List ℕ) where

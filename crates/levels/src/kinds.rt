@@ -3,6 +3,7 @@ use crate::Found;
 use crate::Levels;
 use crate::Refusal;
 ghost use Rattle.levels.specs.Inner.{PvrFound, KtxFound, LevelsFound};
+use ktx::Fields;
 use pvr::Header;
 
 // The levels of a file that is taken as PVR: they follow its metadata.
@@ -35,25 +36,25 @@ fn pvr_levels(file: &[u8]) -> Found
 fn ktx_levels(file: &[u8]) -> Found
     ensures { λ r. ⌜ KtxFound (now (file .entry)) r ⌝ }
 {
-    let fields = ktx::check_fields(file);
-    if let ktx::Fields::Refused(f) = fields {
-        return Found::Refused(Refusal::Ktx(f));
+    let fields = ktx::read_fields(file);
+    match fields {
+        Fields::Refused(f) => Found::Refused(Refusal::Ktx(f)),
+        Fields::Plate(s) => {
+            let start = ktx::size_place(file);
+            if file.len() < start {
+                return Found::Refused(Refusal::Ktx(ktx::HeaderRefusal::CutShort));
+            }
+            let count = ktx::level_count(file) as usize;
+            Found::Levels(Levels {
+                width: s.width,
+                height: s.height,
+                is2bpp: s.is2bpp,
+                count: count,
+                start: start,
+                sized: true,
+            })
+        }
     }
-    let start = ktx::size_place(file);
-    if file.len() < start {
-        return Found::Refused(Refusal::Ktx(ktx::HeaderRefusal::CutShort));
-    }
-    let width = ktx::width_field(file) as usize;
-    let height = ktx::height_field(file) as usize;
-    let count = ktx::level_count(file) as usize;
-    Found::Levels(Levels {
-        width: width,
-        height: height,
-        is2bpp: ktx::is_two(file),
-        count: count,
-        start: start,
-        sized: true,
-    })
 }
 
 // The levels of a file, by the reader that its first bytes choose.

@@ -1,9 +1,9 @@
 -- `ktx::reader::stored_plate` meets its contract. Assumes nothing.
-use mathlib.Core.Path.{_≡_, refl}
+use mathlib.Core.Path.{_≡_, refl, ap, _∙_}
 use Prim.Native.Nat.{ℕ, _+_, _-_}
 use native.Mathlib.Omega.{arith}
 use borrow.Author.Needs.{needs}
-use Rattle.ktx.specs.Header.{headerSize}
+use Rattle.ktx.specs.Header.{headerSize, hasTwoBits}
 use Rattle.ktx.proofs.reader.stored_plate.Statement.{statement}
 use Rattle.ktx.proofs.reader.stored_plate.Tie as tie
 
@@ -11,14 +11,17 @@ use Rattle.ktx.proofs.reader.stored_plate.Tie as tie
 before-place : (n : ℕ) → headerSize + n - 64 ≡ n
 before-place n = omega arith
 
-width-field-requires : tie.Need-width-field-requires
-width-field-requires c κs = search needs
+u32-at-requires : tie.Need-u32-at-requires
+u32-at-requires c κs = search needs
+
+u32-at-requires-2 : tie.Need-u32-at-requires-2
+u32-at-requires-2 c κs = search needs
 
 cast-width : tie.Need-cast-width
 cast-width c = search needs
 
-height-field-requires : tie.Need-height-field-requires
-height-field-requires c κs = search needs
+u32-at-requires-3 : tie.Need-u32-at-requires-3
+u32-at-requires-3 c κs = search needs
 
 cast-height : tie.Need-cast-height
 cast-height c = search needs
@@ -32,36 +35,32 @@ sub-skipped c = omega (arith, c .size-place .ensures .0)
 add-payload : tie.Need-add-payload
 add-payload c = search needs
 
-is-two-requires : tie.Need-is-two-requires
-is-two-requires c κs = search needs
+is-2bpp-requires : tie.Need-is-2bpp-requires
+is-2bpp-requires c κs = search needs
 
 size-word-requires : tie.Need-size-word-requires
 size-word-requires c κs = search needs
 
 returns : tie.Need-returns
 returns c =
-    let place = c .before .before in
-    let height = place .before in
-    rw (
-      height .before .width-field .ensures .0,
-      height .height-field .ensures .0,
-      place .size-place .ensures .0,
-      before-place,
-      c .before .is-two .ensures,
-      c .size-word .ensures .0,
-    ) refl
+    let width = c .before .before .before .before .u32-at2 .ensures .0 in
+    let height = c .before .before .before .u32-at3 .ensures .0 in
+    let place = c .before .before .size-place .ensures .0 in
+    let two = c .before .is-2bpp .ensures ∙ ap hasTwoBits (c .before .before .before .before .before .u32-at .ensures .0) in
+    rw (width, height, two, place, before-place, c .size-word .ensures .0) refl
 
 pub stored-plate-spec : {M : Type 1} → statement M
 stored-plate-spec =
     tie.close
     (tie.spec
-    width-field-requires
+    u32-at-requires
+    u32-at-requires-2
     cast-width
-    height-field-requires
+    u32-at-requires-3
     cast-height
     size-place-requires
     sub-skipped
     add-payload
-    is-two-requires
+    is-2bpp-requires
     size-word-requires
     returns)
