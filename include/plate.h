@@ -1,6 +1,6 @@
 /* The plate decoder, as C calls it: libcapi.a has these functions.
  *
- * They take a run of bytes as a pointer and a length, and lent words as a pointer and their number. They keep within both, call nothing,
+ * They take a run of bytes as a pointer and a length, and lent words as a pointer and their number. They keep within both, call nothing but memcpy,
  * and hold nothing back. A refusal is a number, 0 for none:
  *
  *   1  a side is 0                                 4  too few lent words

@@ -17,7 +17,8 @@ use Rattle.capi.specs.Level.{describedField, levelField}
 use Rattle.capi.proofs.Answers.{of-refused, of-accepted}
 
 module _ (file : List ℕ) (k field : ℕ) {r : Described} (a : LevelRead file k r) where
-  pub field-of-refused : {f : Refusal} {n v : ℕ} → r ≡ described.Refused f → n ≡ numberOf f → v ≡ cond (eqb field 0) n 0 → v ≡ levelField file k field
+  pub field-of-refused : {f : Refusal} {n v : ℕ} → r ≡ described.Refused f → n ≡ numberOf f → v ≡ cond (eqb field 0) n 0
+      → v ≡ levelField file k field
   field-of-refused {f} e q = of-refused _ field (q ∙ whole.of-refused a e) (omega (arith, number-above f))
 
   pub field-of-level : {level : Level} {v : ℕ} → r ≡ described.Level level → v ≡ describedField level field → v ≡ levelField file k field

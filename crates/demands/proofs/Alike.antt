@@ -1,6 +1,6 @@
 -- Two files that are alike in what a level is read from have the same level. Assumes nothing.
 use mathlib.Core.Path.{_≡_, refl, sym, ap, ap₂, _∙_}
-use mathlib.Core.Bool.{Bool, true, false, cond, _&&_, _||_}
+use mathlib.Core.Bool.{Bool, true, false, cond, _&&_}
 use mathlib.Core.List.{List, [], _∷_, _++_}
 use mathlib.Core.Logic.{⊎-elim}
 use Prim.Native.Nat.{ℕ, _+_, _-_, _≤_, _<_}
@@ -18,10 +18,12 @@ use Rattle.files.specs.Fields.{u32At}
 use Rattle.files.proofs.Fields.{same-field}
 use Rattle.files.proofs.Starts.{start-alike}
 use Rattle.pvr.specs.Header as pvr
-use Rattle.pvr.specs.NoEffect.{hasNoEffect, SameHeader}
+use Rattle.pvr.specs.NoEffect as pvr-part
+use Rattle.pvr.specs.NoEffect.{SameHeader}
 use Rattle.pvr.proofs.NoEffect as pvr-same
 use Rattle.ktx.specs.Header as ktx
 use Rattle.ktx.specs.Header.{ktxBytes, isKtx}
+use Rattle.ktx.specs.NoEffect as ktx-part
 use Rattle.ktx.specs.NoEffect.{isIgnored, SameFields}
 use Rattle.ktx.proofs.NoEffect as ktx-same
 use Rattle.ktx.proofs.NoEffect.{words-alike}
@@ -61,16 +63,16 @@ pub record AlikeBefore (f g : List ℕ) (k : ℕ) : Type 0 where
   pub word : let l = levelsIn f in (i : ℕ) → startAt l k ≤ i + sizeWordBytes (l .sized) → i < startAt l k → getD f i 0 ≡ getD g i 0
 
 -- the first four bytes are read, and tell the kind
-first-read : (t : Bool) (i : ℕ) → i < 4 → cond t (leb 20 i && ltb i 24 || leb 32 i && ltb i 36) (hasNoEffect i) ≡ false
+first-read : (t : Bool) (i : ℕ) → i < 4 → cond t (ktx-part.hasNoEffect i) (pvr-part.hasNoEffect i) ≡ false
 first-read true i h = simp (lt-leb 20 i (omega arith), lt-leb 32 i (omega arith))
 first-read false i h = simp (lt-leb 4 i h, lt-leb 16 i (omega arith), lt-leb 20 i (omega arith))
 
 -- of KTX's fields, those that its other readers do not ignore are read
-fields-read : (i : ℕ) → isIgnored i ≡ false → (leb 20 i && ltb i 24 || leb 32 i && ltb i 36) ≡ false
-fields-read i u = or-left (leb 20 i && ltb i 24 || leb 32 i && ltb i 36) (leb 56 i && ltb i 60) u
+fields-read : (i : ℕ) → isIgnored i ≡ false → ktx-part.hasNoEffect i ≡ false
+fields-read i u = or-left (ktx-part.hasNoEffect i) (leb 56 i && ltb i 60) u
 
--- and so are the levels
-count-read : (i : ℕ) → 56 ≤ i → (leb 20 i && ltb i 24 || leb 32 i && ltb i 36) ≡ false
+-- and so are the levels, and what follows them
+pub count-read : (i : ℕ) → 56 ≤ i → ktx-part.hasNoEffect i ≡ false
 count-read i h = simp (le-leb 20 i (omega arith), le-leb 32 i (omega arith), le-ltb i 24 (omega arith), le-ltb i 36 (omega arith))
 
 -- levels start behind either header

@@ -7,7 +7,7 @@ use Prim.Native.Nat.{ℕ, _+_, _≤_, _<_}
 use native.Mathlib.Omega.{arith}
 use lib.Dec.{T, eqb, ltb}
 use lib.ListN.{length, getD, drop, length-append, List·getD-append}
-use borrow.Author.Tests.{eq-eqb, ne-eqb, eqb-true, lt-ltb, le-ltb, ltb-true, not-false}
+use borrow.Author.Tests.{eq-eqb, ne-eqb, eqb-true, lt-ltb, le-ltb, ltb-true, lt-leb, le-leb, not-false}
 use Rattle.facts.specs.Checks.{Check, check, firstOf, numbered}
 use Rattle.facts.proofs.Checks.{none-said, first-append, said-later}
 use Rattle.facts.proofs.Lists.{choice}
@@ -41,12 +41,12 @@ use Rattle.pvrtc.proofs.Unique.{one-written}
 use Rattle.convert.specs.Output as program
 use Rattle.convert.proofs.Either as says
 use Rattle.demands.specs.Footprint.{SameOutside}
-use Rattle.demands.specs.Levels.{headerBytes, isUnread, AlikeAt, Placing, EachByItself, FirstLevel}
+use Rattle.demands.specs.Levels.{headerBytes, isUnread, AlikeAt, SameButKeyValues, Placing, EachByItself, FirstLevel}
 use Rattle.demands.specs.LocalCalls.{blocksOf, changed, mostTouched}
 use Rattle.demands.specs.LocalFiles.{DamagedAt, OnlyNear}
 use Rattle.demands.specs.NoEffect.{SameButFlags}
 use Rattle.demands.specs.Right.{by-level, by-program}
-use Rattle.demands.proofs.Alike.{AlikeBefore, same-picture, same-start, same-refusal, same-level-of}
+use Rattle.demands.proofs.Alike.{AlikeBefore, count-read, same-picture, same-start, same-refusal, same-level-of}
 use Rattle.demands.proofs.LocalCalls.{local-pictures}
 use Rattle.demands.proofs.LocalFiles.{only-near, in-front, other-blocks}
 use Rattle.demands.proofs.NoEffect.{past-header}
@@ -119,6 +119,19 @@ flags-alike f g e s k =
       own = λ i low high. s .bytes i (past-header i (omega (arith, rw e at past)));
     }
 
+-- nor are KTX's type size, base format and key/value bytes
+key-values-alike : (f g : List ℕ) → isKtx f ≡ true → SameButKeyValues f g → (k : ℕ) → AlikeAt f g k
+key-values-alike f g e s k =
+    let past = file-ranges f .of-ktx e .past k in
+    let word : sizeWordBytes (levelsIn f .sized) ≡ 4 = ap sizeWordBytes (file-ranges f .of-ktx e .sized) in
+    record {
+      ends = λ n _. ap (λ (m : ℕ). ltb m n) (s .size);
+      header = λ i h u. s .bytes i (rw e at u) (ap (λ (t : Bool). t && ltb i (ktx.sizePlace f)) (lt-leb ktx.headerSize i (rw e at h)));
+      own = λ i low high.
+          let behind : ktx.sizePlace f ≤ i = omega arith in
+          s .bytes i (count-read i (omega arith)) (simp (le-leb ktx.headerSize i (omega arith), le-ltb i (ktx.sizePlace f) behind));
+    }
+
 -- nor is what follows it
 later-alike : (file more : List ℕ) (k : ℕ) → endAt (levelsIn file) k ≤ length file → AlikeAt file (file ++ more) k
 later-alike file more k h =
@@ -136,6 +149,7 @@ each-by-itself =
       alike = λ f g k. same-level-of;
       later = λ file more k h. same-level-of (later-alike file more k h);
       flags = λ f g e s k. same-level-of (flags-alike f g e s k);
+      key-values = λ f g e s k. same-level-of (key-values-alike f g e s k);
       others = λ f g j z s inside k other. same-level-of (elsewhere f g j z s inside k other);
       near = near;
       few = few;
@@ -148,7 +162,8 @@ prefix file [] m e = refl
 prefix [] (b ∷ l) m e = e
 prefix (a ∷ file) (b ∷ l) m e = by (eqb a b) e (prefix file l m)
   where
-    by : (t : Bool) → (t && startsWith file (l ++ m)) ≡ true → (startsWith file (l ++ m) ≡ true → startsWith file l ≡ true) → (t && startsWith file l) ≡ true
+    by : (t : Bool) → (t && startsWith file (l ++ m)) ≡ true → (startsWith file (l ++ m) ≡ true → startsWith file l ≡ true)
+        → (t && startsWith file l) ≡ true
     by true q rest = rest q
     by false q rest = q
 

@@ -1,18 +1,20 @@
 -- The levels of a file beside one another, and level 0 beside the plate. Assumes nothing: these are definitions.
 use mathlib.Core.Path.{_≡_}
-use mathlib.Core.Bool.{Bool, false, cond, _&&_, _||_}
+use mathlib.Core.Bool.{Bool, true, false, cond}
 use mathlib.Core.List.{List, _++_}
 use mathlib.Core.Logic.{_↔_}
 use Prim.Native.Nat.{ℕ, _+_, _*_, _≤_, _<_}
-use lib.Dec.{ltb, leb}
+use lib.Dec.{ltb}
 use lib.ListN.{length, getD}
 use Rattle.facts.specs.Checks.{firstOf}
 use Rattle.files.specs.Fields.{u32At}
 use Rattle.khronos.specs.Agrees.{Bytes}
 use Rattle.pvr.specs.Header as pvr
-use Rattle.pvr.specs.NoEffect.{hasNoEffect}
+use Rattle.pvr.specs.NoEffect as pvr-same
 use Rattle.ktx.specs.Header as ktx
 use Rattle.ktx.specs.Header.{isKtx}
+use Rattle.ktx.specs.NoEffect as ktx-same
+use Rattle.ktx.specs.NoEffect.{isKeyValue}
 use Rattle.ktx.specs.Picture.{KtxDecoded}
 use Rattle.ktx.specs.declared.Decoded.the-variants.{Done as KtxDone}
 use Rattle.levels.specs.Calls.{LevelRead, LevelDecoded}
@@ -52,7 +54,7 @@ headerBytes file = cond (isKtx file) ktx.headerSize pvr.headerSize
 
 -- What of it no level is read from: KTX's type size and base format; PVR's flags, colour space and channel type.
 abbrev pub isUnread : List ℕ → ℕ → Bool
-isUnread file i = cond (isKtx file) (leb 20 i && ltb i 24 || leb 32 i && ltb i 36) (hasNoEffect i)
+isUnread file i = cond (isKtx file) (ktx-same.hasNoEffect i) (pvr-same.hasNoEffect i)
 
 -- Two files that are alike in what level k is read from: the header, the level's own size word and its own bytes. They end at one place, or both behind
 -- the level. Metadata or key/value bytes, every other size word and every other level may differ.
@@ -68,6 +70,11 @@ pub record SameLevel (f g : List ℕ) (k : ℕ) : Type 0 where
   pub c-field : (field : ℕ) → levelField f k field ≡ levelField g k field
   pub c-picture : (old new : List ℕ) (n : ℕ) → WroteLevel f k old new n ↔ WroteLevel g k old new n
 
+-- Two files that differ in KTX's type size, base format and key/value bytes alone.
+pub record SameButKeyValues (f g : List ℕ) : Type 0 where
+  pub size : length f ≡ length g
+  pub bytes : (i : ℕ) → ktx-same.hasNoEffect i ≡ false → isKeyValue f i ≡ false → getD f i 0 ≡ getD g i 0
+
 -- Each level by itself.
 pub record EachByItself : Type 0 where
   -- Nothing else has an effect: no earlier size word either.
@@ -76,6 +83,8 @@ pub record EachByItself : Type 0 where
   pub later : (file more : List ℕ) (k : ℕ) → endAt (levelsIn file) k ≤ length file → SameLevel file (file ++ more) k
   -- PVR's flags, colour space and channel type have none.
   pub flags : (f g : List ℕ) → isKtx f ≡ false → SameButFlags f g → (k : ℕ) → SameLevel f g k
+  -- Nor have KTX's type size, base format and the key/value bytes themselves. Its levels, which nothing else reads, are read here.
+  pub key-values : (f g : List ℕ) → isKtx f ≡ true → SameButKeyValues f g → (k : ℕ) → SameLevel f g k
   -- Damage in block z of level j changes nothing of another level.
   pub others : (f g : List ℕ) (j z : ℕ) → DamagedAt (startAt (levelsIn f) j) f g z → z < blocksOf (pictureOf f j)
       → (k : ℕ) → (k ≡ j → ⊥) → SameLevel f g k

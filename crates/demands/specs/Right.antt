@@ -46,10 +46,10 @@ pub data Gives (p : Picture) (d : List ℕ) (x y v : ℕ) : Type 0 where
   by-c-ktx : (file old new : List ℕ) → ktx.plateOf file ≡ p → ktx.levelData file ≡ d → WroteKtx file old new 0 → x < p .width → y < p .height
       → v ≡ getD new (placeIn p x y) 0 → Gives p d x y v
   -- The call on a level of a file of either kind likewise, and so in C.
-  by-level : (file : List ℕ) (k : ℕ) (old new : List ℕ) → level.pictureOf file k ≡ p → level.levelData file k ≡ d → LevelDecoded file k old new LevelDone
-      → x < p .width → y < p .height → v ≡ getD new (placeIn p x y) 0 → Gives p d x y v
-  by-c-level : (file : List ℕ) (k : ℕ) (old new : List ℕ) → level.pictureOf file k ≡ p → level.levelData file k ≡ d → WroteLevel file k old new 0
-      → x < p .width → y < p .height → v ≡ getD new (placeIn p x y) 0 → Gives p d x y v
+  by-level : (file : List ℕ) (k : ℕ) (old new : List ℕ) → level.pictureOf file k ≡ p → level.levelData file k ≡ d
+      → LevelDecoded file k old new LevelDone → x < p .width → y < p .height → v ≡ getD new (placeIn p x y) 0 → Gives p d x y v
+  by-c-level : (file : List ℕ) (k : ℕ) (old new : List ℕ) → level.pictureOf file k ≡ p → level.levelData file k ≡ d
+      → WroteLevel file k old new 0 → x < p .width → y < p .height → v ≡ getD new (placeIn p x y) 0 → Gives p d x y v
   -- The program writes it for a file of either kind, behind the 18 bytes of the header.
   by-program : (file : List ℕ) → plateOf file ≡ p → levelData file ≡ d → programRefusal file ≡ 0 → x < p .width → y < p .height
       → v ≡ u32At (output file) (18 + 4 * placeIn p x y) → Gives p d x y v

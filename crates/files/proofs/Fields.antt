@@ -73,7 +73,8 @@ rest-same f g n even e =
     (λ k _. getD-drop n f k 0 ∙ e (n + k) (omega arith) ∙ sym (getD-drop n g k 0))
 
 -- the data from the payload on, or from the file's end where that comes first
-pub data-is : (file : List ℕ) (start payload : ℕ) → start ≡ min payload (length file) → take (length file - start) (drop start file) ≡ drop payload file
+pub data-is : (file : List ℕ) (start payload : ℕ) → start ≡ min payload (length file)
+    → take (length file - start) (drop start file) ≡ drop payload file
 data-is file start payload e =
     take-all (length file - start) (drop start file) (omega (arith, length-drop start file))
     ∙ ⊎-elim

@@ -7,9 +7,13 @@ use lib.Dec.{ltb, leb}
 use lib.ListN.{length, getD}
 use Rattle.ktx.specs.Header.{headerSize, sizePlace, sizeWord, shortHeader, cutShort}
 
--- Of the fields, type size, base format and levels have no effect: places 20 to 23, 32 to 35 and 56 to 59.
+-- Of the fields, type size and base format have no effect at all: places 20 to 23 and 32 to 35.
+abbrev pub hasNoEffect : ℕ → Bool
+hasNoEffect i = leb 20 i && ltb i 24 || leb 32 i && ltb i 36
+
+-- Nor have the levels, at 56 to 59, on how level 0 is read.
 abbrev pub isIgnored : ℕ → Bool
-isIgnored i = leb 20 i && ltb i 24 || leb 32 i && ltb i 36 || leb 56 i && ltb i 60
+isIgnored i = hasNoEffect i || leb 56 i && ltb i 60
 
 -- The key/value bytes stand between the header and the size word.
 abbrev pub isKeyValue : List ℕ → ℕ → Bool

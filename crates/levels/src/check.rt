@@ -78,7 +78,7 @@ fn check_count(l: Levels, k: usize) -> Decoded
     Decoded::Done
 }
 
-// Both, one after the other.
+// The refusals of the plate's sides, and then those of the number of levels.
 pub fn check_levels(l: Levels, k: usize) -> Decoded
     ensures { λ r. ⌜ Says r (sizeChecks (plateIn l) ++ countChecks l k) ⌝ }
 {
