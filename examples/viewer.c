@@ -1,9 +1,11 @@
 /* Opens a PVR or a KTX file by its header, reads some texels and the whole picture through the calls of plate.h, and prints them. With a
- * number, it prints that level of the file: its sides, where its data stands, and a sum of its picture.
+ * number, it prints that level of the file: its sides, where its data stands, and a sum of its picture. Texels are blue first, as plate.h says,
+ * unless red first is asked for.
  *
  *   viewer page.pvr
  *   viewer page.ktx
  *   viewer levels.pvr 2
+ *   viewer --red-first page.pvr
  *
  * Exit status: 0 the picture is printed; 1 the file or the level is refused, and its number printed; 2 something else went wrong, and standard
  * error says what.
@@ -50,12 +52,16 @@ static const char *read_file(const char *path, uint8_t **bytes, size_t *len)
 /* The mode for data that comes from a file: any number but 0 is the stored mode. */
 enum { STORED = 1 };
 
-/* A file, or one of its levels, if one is asked for: its sides and depth, and the data that is there. */
+/* The two orders of a texel's channels: any number but 0 is red first. */
+enum { BLUE_FIRST = 0, RED_FIRST = 1 };
+
+/* A file, or one of its levels, if one is asked for: the order that its texels are wanted in, its sides and depth, and the data that is there. */
 struct plate {
     const uint8_t *file, *data;
     size_t len, left;
     int is_ktx;
     const uint64_t *level;
+    uint32_t order;
     uint64_t width, height;
     uint32_t depth;
 };
@@ -71,17 +77,17 @@ static uint64_t field(const struct plate *p, uint32_t number)
 /* The texel, by the same call for all of them. */
 static uint64_t texel(const struct plate *p, uint64_t x, uint64_t y)
 {
-    return plate_texel(p->data, p->left, p->width, p->height, p->depth, STORED, x, y);
+    return plate_texel(p->data, p->left, p->width, p->height, p->depth, STORED, p->order, x, y);
 }
 
 /* The picture, by the call for a level or for the file's kind. */
 static uint64_t decode(const struct plate *p, uint32_t *image, size_t room)
 {
     if (p->level)
-        return plate_level(p->file, p->len, *p->level, image, room);
+        return plate_level(p->file, p->len, *p->level, p->order, image, room);
     if (p->is_ktx)
-        return plate_ktx_picture(p->file, p->len, image, room);
-    return plate_picture(p->data, p->left, p->width, p->height, p->depth, STORED, image, room);
+        return plate_ktx_picture(p->file, p->len, p->order, image, room);
+    return plate_picture(p->data, p->left, p->width, p->height, p->depth, STORED, p->order, image, room);
 }
 
 /* Three texels, and one past the corner, which is refused. */
@@ -146,9 +152,9 @@ static void print_description(const struct plate *p, uint64_t bits, uint64_t pay
 
 /* A file, or the level of it that is asked for, and what the calls make of it. The first bytes say the file's kind, as they do for the
  * program; of a level the calls see to that. Answers the exit status. */
-static int print_file(const char *path, const uint8_t *file, size_t len, const uint64_t *level)
+static int print_file(const char *path, const uint8_t *file, size_t len, const uint64_t *level, uint32_t order)
 {
-    struct plate p = {.file = file, .data = file, .len = len, .level = level};
+    struct plate p = {.file = file, .data = file, .len = len, .level = level, .order = order};
     p.is_ktx = len >= 4 && memcmp(file, "\xABKTX", 4) == 0;
     uint64_t refused = field(&p, 0);
     if (refused) {
@@ -186,7 +192,7 @@ static int read_number(const char *digits, uint64_t *number)
 
 static int usage(void)
 {
-    fprintf(stderr, "usage: viewer PLATE [LEVEL], a PVR or a KTX file, and a level's number\n");
+    fprintf(stderr, "usage: viewer [--red-first] PLATE [LEVEL], a PVR or a KTX file, and a level's number\n");
     return 2;
 }
 
@@ -195,7 +201,13 @@ int main(int argc, char **argv)
     uint8_t *file = NULL;
     size_t len = 0;
     uint64_t level = 0;
+    uint32_t order = BLUE_FIRST;
 
+    if (argc > 1 && strcmp(argv[1], "--red-first") == 0) {
+        order = RED_FIRST;
+        argc--;
+        argv++;
+    }
     if (argc != 2 && argc != 3)
         return usage();
     if (argc == 3 && !read_number(argv[2], &level)) {
@@ -203,7 +215,7 @@ int main(int argc, char **argv)
         return usage();
     }
     const char *wrong = read_file(argv[1], &file, &len);
-    int status = wrong ? fail(argv[1], wrong) : print_file(argv[1], file, len, argc == 3 ? &level : NULL);
+    int status = wrong ? fail(argv[1], wrong) : print_file(argv[1], file, len, argc == 3 ? &level : NULL, order);
     free(file);
     return status;
 }

@@ -22,7 +22,9 @@
  *  21  metadata or key/value bytes above 4,096    23  a need above 32,768 bytes
  *  22  a side is above 1,024
  *
- * A texel is blue + 256 green + 65,536 red + 16,777,216 alpha.
+ * A texel is four channels in a word, and the order, a number, says which of its bytes are blue and red. In order 0, blue first, it is
+ * blue + 256 green + 65,536 red + 16,777,216 alpha. Red first, in any other order, it is red + 256 green + 65,536 blue + 16,777,216 alpha: the
+ * same word with two bytes exchanged. No refusal depends on the order.
  *
  * Data is blocks of 8 bytes, each for 4 x 4 texels at 4 bits a texel, for 8 x 4 at 2 bits. The mode, a number, says how many there are. In
  * mode 0, the Rust original's, there are as many as cover the picture: a side divided by a block's side, rounded up. In the stored mode, any
@@ -44,17 +46,19 @@ extern "C" {
 #endif
 
 /* Texel (x, y) of a picture: the texel in the low 32 bits, the refusal's number above them. Refused, the texel is 0.
- * Depth 0 is 4 bits a texel, any other number 2 bits; mode 0 is the Rust's, any other number the stored one. */
-uint64_t plate_texel(const uint8_t *data, size_t len, uint64_t width, uint64_t height, uint32_t depth, uint32_t mode, uint64_t x, uint64_t y);
+ * Depth 0 is 4 bits a texel, any other number 2 bits; mode 0 is the Rust's, any other number the stored one; order 0 is blue first, any other
+ * number red first. */
+uint64_t plate_texel(const uint8_t *data, size_t len, uint64_t width, uint64_t height, uint32_t depth, uint32_t mode, uint32_t order,
+                     uint64_t x, uint64_t y);
 
 /* Row y of a picture into `room` lent words: texel (x, y) at word x, later words stay. Answers the refusal's number; refused, every word
  * stays. */
-uint64_t plate_row(const uint8_t *data, size_t len, uint64_t width, uint64_t height, uint32_t depth, uint32_t mode, uint64_t y,
-                   uint32_t *row, size_t room);
+uint64_t plate_row(const uint8_t *data, size_t len, uint64_t width, uint64_t height, uint32_t depth, uint32_t mode, uint32_t order,
+                   uint64_t y, uint32_t *row, size_t room);
 
 /* A whole picture into `room` lent words: texel (x, y) at word y * width + x, later words stay. Answers the refusal's number; refused,
  * every word stays. */
-uint64_t plate_picture(const uint8_t *data, size_t len, uint64_t width, uint64_t height, uint32_t depth, uint32_t mode,
+uint64_t plate_picture(const uint8_t *data, size_t len, uint64_t width, uint64_t height, uint32_t depth, uint32_t mode, uint32_t order,
                        uint32_t *image, size_t room);
 
 /* A field of a PVR version 3 file's header. 0: the refusal's number, the first of 11 to 17 that holds; 1: width; 2: height; 3: bits a texel,
@@ -66,9 +70,9 @@ uint64_t plate_header(const uint8_t *file, size_t len, uint32_t field);
  * any other field, are 0. */
 uint64_t plate_ktx(const uint8_t *file, size_t len, uint32_t field);
 
-/* The picture of a KTX version 1 file into `room` lent words, as plate_picture gives it in the stored mode. Answers the refusal's number, the
- * first of the header's and then 1, 2, 36, 3, 4 and 5 that holds; refused, every word stays. */
-uint64_t plate_ktx_picture(const uint8_t *file, size_t len, uint32_t *image, size_t room);
+/* The picture of a KTX version 1 file into `room` lent words, as plate_picture gives it in the stored mode and the same order. Answers the
+ * refusal's number, the first of the header's and then 1, 2, 36, 3, 4 and 5 that holds; refused, every word stays. */
+uint64_t plate_ktx_picture(const uint8_t *file, size_t len, uint32_t order, uint32_t *image, size_t room);
 
 /* A field of a level of a PVR or a KTX file, which is told by its first four bytes, as the program tells it. Level 0 is the file's picture, and
  * each later one has the sides of the one before halved, rounded down, and 1 at the least. 0: the refusal's number, the first that holds of the
@@ -80,9 +84,9 @@ uint64_t plate_ktx_picture(const uint8_t *file, size_t len, uint32_t *image, siz
  * the end of a PVR file. Where a level stands follows from the sides: no other level's size word is read. */
 uint64_t plate_level_field(const uint8_t *file, size_t len, uint64_t level, uint32_t field);
 
-/* A level of a PVR or a KTX file into `room` lent words, as plate_picture gives it in the stored mode. Answers the refusal's number, the first
- * of those of plate_level_field and then 3, 4 and 5 that holds; refused, every word stays. */
-uint64_t plate_level(const uint8_t *file, size_t len, uint64_t level, uint32_t *image, size_t room);
+/* A level of a PVR or a KTX file into `room` lent words, as plate_picture gives it in the stored mode and the same order. Answers the refusal's
+ * number, the first of those of plate_level_field and then 3, 4 and 5 that holds; refused, every word stays. */
+uint64_t plate_level(const uint8_t *file, size_t len, uint64_t level, uint32_t order, uint32_t *image, size_t room);
 
 #ifdef __cplusplus
 }

@@ -164,6 +164,11 @@ def decode_at(file, width, height, two, payload):
     return decode(bytes(file[payload:payload + need(width, height, two)]), width, height, two)
 
 
+def red_first(word):
+    """The same texel with red in the low byte: its low and third bytes exchanged."""
+    return word & 0xFF00FF00 | (word & 0xFF) << 16 | word >> 16 & 0xFF
+
+
 # ---- refusals
 
 def u32(file, at):

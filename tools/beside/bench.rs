@@ -1,9 +1,10 @@
 // Times the calls of include/plate.h against the Rust original: one process, the same input, CPU time, the best of 35.
 //
 // A time is that of a call divided by its texels, in nanoseconds; a ratio is the original's time divided by ours, so above 1 ours is
-// faster. Ours is timed in the Rust's mode and in the stored one. Every picture that is timed is first decoded by both and compared. Built with
-// `--cfg before`, it times another build of our library as well, in the Rust's mode and in turn with the others: then the last two columns are
-// our times in the two modes divided by that build's, so above 1 ours is slower.
+// faster. Ours is timed in the Rust's mode, in the stored one, and in the Rust's mode red first; one column more is the time blue first divided by
+// that red first, so above 1 red first is faster. Every picture that is timed is first decoded by both and compared. Built with `--cfg before`, it
+// times another build of our library as well, in the Rust's mode, blue first, and in turn with the others: then the last three columns are our
+// times divided by that build's, so above 1 ours is slower.
 //
 // Two tables more are of levels: a level from a file against the block call on the same bytes, and a level's description by itself.
 
@@ -13,7 +14,7 @@ mod both;
 mod shape;
 
 use both::{draw, plate_level, plate_level_field, plate_picture, plate_row, plate_texel};
-use shape::{Shape, RUSTS, STORED};
+use shape::{in_order, Shape, BLUE_FIRST, RED_FIRST, RUSTS, STORED};
 use std::hint::black_box;
 
 extern "C" {
@@ -62,20 +63,22 @@ fn best_times(mut works: Vec<Work>) -> Vec<f64> {
     best
 }
 
-// The calls of one build of our library in a mode, which answer as include/plate.h says.
+// The calls of one build of our library in a mode and an order, which answer as include/plate.h says.
 struct Calls {
     mode: u32,
+    order: u32,
     picture: fn(&Picture, &mut [u32]) -> u64,
     row: fn(&Picture, usize, &mut [u32]) -> u64,
     texel: fn(&Picture, usize, usize) -> u64,
 }
 
-// A build's calls, by the names of its functions and by what they take behind the depth: the mode or, before there were modes, nothing. So no
-// build is called through one function more than another.
+// A build's calls, by the names of its functions and by what they take behind the depth: the mode, and the order or, before there were orders,
+// nothing. So no build is called through one function more than another.
 macro_rules! calls {
-    ($mode:expr, $picture:ident, $row:ident, $texel:ident, ($($behind:expr),*)) => {
+    ($mode:expr, $order:expr, $picture:ident, $row:ident, $texel:ident, ($($behind:expr),*)) => {
         Calls {
             mode: $mode,
+            order: $order,
             picture: |p, image| {
                 let (w, h, depth) = p.s.numbers();
                 unsafe { $picture(p.data.as_ptr(), p.data.len(), w, h, depth, $($behind,)* image.as_mut_ptr(), image.len()) }
@@ -92,31 +95,34 @@ macro_rules! calls {
     };
 }
 
-// The other build's functions. Without a mode, they have the parameters of a library from before there were modes.
+// The other build's functions. Without an order, they have the parameters of a library from before there were orders.
 #[cfg(before)]
 extern "C" {
     fn before_plate_texel(
-        data: *const u8, len: usize, width: u64, height: u64, depth: u32, #[cfg(not(without_mode))] mode: u32, x: u64, y: u64,
+        data: *const u8, len: usize, width: u64, height: u64, depth: u32, mode: u32, #[cfg(not(without_order))] order: u32, x: u64, y: u64,
     ) -> u64;
     fn before_plate_row(
-        data: *const u8, len: usize, width: u64, height: u64, depth: u32, #[cfg(not(without_mode))] mode: u32, y: u64, row: *mut u32, room: usize,
+        data: *const u8, len: usize, width: u64, height: u64, depth: u32, mode: u32, #[cfg(not(without_order))] order: u32,
+        y: u64, row: *mut u32, room: usize,
     ) -> u64;
     fn before_plate_picture(
-        data: *const u8, len: usize, width: u64, height: u64, depth: u32, #[cfg(not(without_mode))] mode: u32, image: *mut u32, room: usize,
+        data: *const u8, len: usize, width: u64, height: u64, depth: u32, mode: u32, #[cfg(not(without_order))] order: u32,
+        image: *mut u32, room: usize,
     ) -> u64;
 }
 
 // Where ours in the stored mode stands among these.
 const OURS_STORED: usize = 1;
 
-// Ours in both modes, and the other build if there is one.
+// Ours in both modes, and red first, and the other build if there is one.
 static BUILDS: &[Calls] = &[
-    calls!(RUSTS, plate_picture, plate_row, plate_texel, (RUSTS)),
-    calls!(STORED, plate_picture, plate_row, plate_texel, (STORED)),
-    #[cfg(all(before, not(without_mode)))]
-    calls!(RUSTS, before_plate_picture, before_plate_row, before_plate_texel, (RUSTS)),
-    #[cfg(all(before, without_mode))]
-    calls!(RUSTS, before_plate_picture, before_plate_row, before_plate_texel, ()),
+    calls!(RUSTS, BLUE_FIRST, plate_picture, plate_row, plate_texel, (RUSTS, BLUE_FIRST)),
+    calls!(STORED, BLUE_FIRST, plate_picture, plate_row, plate_texel, (STORED, BLUE_FIRST)),
+    calls!(RUSTS, RED_FIRST, plate_picture, plate_row, plate_texel, (RUSTS, RED_FIRST)),
+    #[cfg(all(before, not(without_order)))]
+    calls!(RUSTS, BLUE_FIRST, before_plate_picture, before_plate_row, before_plate_texel, (RUSTS, BLUE_FIRST)),
+    #[cfg(all(before, without_order))]
+    calls!(RUSTS, BLUE_FIRST, before_plate_picture, before_plate_row, before_plate_texel, (RUSTS)),
 ];
 
 // Words as drawn.
@@ -153,6 +159,13 @@ impl Picture<'_> {
         self.s.original(self.data, image, mode).expect("the original refuses");
     }
 
+    // What a build must decode: the original's picture in its mode, and in its order.
+    fn expected(&self, build: &Calls) -> Vec<u32> {
+        let mut image = vec![0; self.s.texels()];
+        self.original(&mut image, build.mode);
+        image.into_iter().map(|word| in_order(word, build.order)).collect()
+    }
+
     // The best times of the original's picture and of a work of each build.
     fn timed<'a>(&'a self, work: impl Fn(&'static Calls) -> Work<'a>) -> Vec<f64> {
         let mut image = vec![0; self.s.texels()];
@@ -161,8 +174,8 @@ impl Picture<'_> {
         best_times(works)
     }
 
-    // The line of a call of which each makes so many texels: the original's time, each build's with its ratio, then ours divided by the other
-    // build's.
+    // The line of a call of which each makes so many texels: the original's time, each build's with its ratio, ours blue first divided by ours red
+    // first, then ours divided by the other build's.
     fn print_line(&self, call: &str, times: &[f64], texels: usize) {
         let theirs = times[0] / self.s.texels() as f64;
         print!("| {call} | {} | {} × {} | {} | {theirs:.2} |", self.s.bits(), self.s.width, self.s.height, self.words);
@@ -170,18 +183,19 @@ impl Picture<'_> {
             let ours = time / texels as f64;
             print!(" {ours:.2} | {:.2} |", theirs / ours);
         }
-        if let [_, rusts, stored, before] = times {
-            print!(" {:.3} | {:.3} |", rusts / before, stored / before);
+        let [rusts, stored, red] = [times[1], times[2], times[3]];
+        print!(" {:.3} |", rusts / red);
+        if let Some(before) = times.get(4) {
+            print!(" {:.3} | {:.3} | {:.3} |", rusts / before, stored / before, red / before);
         }
         println!();
     }
 
     fn measure_picture(&self) {
         for build in BUILDS {
-            let (mut image, mut whole) = (vec![0; self.s.texels()], vec![0; self.s.texels()]);
-            self.original(&mut image, build.mode);
+            let mut whole = vec![0; self.s.texels()];
             assert_eq!((build.picture)(self, &mut whole), 0);
-            assert!(whole == image, "the pictures differ: {} x {}, {} bits", self.s.width, self.s.height, self.s.bits());
+            assert!(whole == self.expected(build), "the pictures differ: {} x {}, {} bits", self.s.width, self.s.height, self.s.bits());
         }
         let times = self.timed(|build| {
             let mut whole = vec![0; self.s.texels()];
@@ -193,8 +207,7 @@ impl Picture<'_> {
     fn measure_rows(&self) {
         let (width, height) = (self.s.width, self.s.height);
         for build in BUILDS {
-            let (mut image, mut row) = (vec![0; self.s.texels()], vec![0; width]);
-            self.original(&mut image, build.mode);
+            let (image, mut row) = (self.expected(build), vec![0; width]);
             for y in 0..height {
                 assert_eq!((build.row)(self, y, &mut row), 0);
                 assert!(row == image[y * width..][..width], "row {y} differs");
@@ -213,8 +226,7 @@ impl Picture<'_> {
     fn measure_texels(&self, places: &[usize]) {
         let width = self.s.width;
         for build in BUILDS {
-            let mut image = vec![0; self.s.texels()];
-            self.original(&mut image, build.mode);
+            let image = self.expected(build);
             for &at in places {
                 assert_eq!((build.texel)(self, at % width, at / width), image[at] as u64, "texel {at} differs");
             }
@@ -232,9 +244,11 @@ impl Picture<'_> {
 
 fn print_head() {
     let mut columns = vec!["call", "bits", "size", "words", "original, ns a texel"];
-    columns.extend(["ours, ns a texel", "ratio", "ours, stored mode", "ratio"]);
+    columns.extend(["ours, ns a texel", "ratio", "ours, stored mode", "ratio", "ours, red first", "ratio"]);
     if cfg!(before) {
-        columns.extend(["before", "ratio", "ours / before", "stored / before"]);
+        columns.extend(["before", "ratio", "blue / red", "ours / before", "stored / before", "red / before"]);
+    } else {
+        columns.push("blue / red");
     }
     println!();
     println!("| {} |", columns.join(" | "));
@@ -273,7 +287,7 @@ fn measure_level(is_ktx: bool, is2bpp: bool) {
     let s = Shape { width: 1024, height: 1024, is2bpp };
     let (picture, file) = (&Picture { data: &file[start..][..s.need(STORED)], s, words: "random" }, &file[..]);
     let block = |image: &mut [u32]| (BUILDS[OURS_STORED].picture)(picture, image);
-    let level = |image: &mut [u32]| unsafe { plate_level(file.as_ptr(), file.len(), 1, image.as_mut_ptr(), image.len()) };
+    let level = |image: &mut [u32]| unsafe { plate_level(file.as_ptr(), file.len(), 1, BLUE_FIRST, image.as_mut_ptr(), image.len()) };
     let (mut image, mut again) = (vec![0; s.texels()], vec![0; s.texels()]);
     assert_eq!((block(&mut image), level(&mut again)), (0, 0));
     assert!(image == again, "the level differs from the picture of its bytes");

@@ -3,7 +3,8 @@
 // Our calls are lent memory that ends where a page may not be touched, with words before it that must stay. A picture is decoded by both, in the
 // Rust's mode and in the stored one; its rows, or one row if it is large, and a texel of each are then asked for by the other calls, and then the
 // same data is read as a KTX file, which is the stored mode. A level of a file must be the original's picture of its own bytes, cut out. Where the
-// original is no oracle (document 01's domain), the answer is held to document 01's table of refusals, over the mode's grid.
+// original is no oracle (document 01's domain), the answer is held to document 01's table of refusals, over the mode's grid. All of this is asked
+// for blue first, as the original's words are, and red first, where they must come with two bytes exchanged.
 
 extern crate color;
 
@@ -17,10 +18,12 @@ mod shape;
 
 use both::{original, plate_convert, plate_picture, plate_row, plate_texel};
 use guarded::Guarded;
-use shape::{Shape, RUSTS, STORED};
+use shape::{in_order, Shape, BLUE_FIRST, RED_FIRST, RUSTS, STORED};
+use std::collections::BTreeMap;
 
-// Numbers that all say the stored mode.
+// Numbers that all say the stored mode, and numbers that all say red first.
 const STORED_NUMBERS: [u32; 4] = [STORED, 2, 0x8000_0000, u32::MAX];
+const RED_NUMBERS: [u32; 5] = [RED_FIRST, 2, 256, 0x8000_0000, u32::MAX];
 
 // Words before a lent buffer that must stay.
 const BEFORE: usize = 64;
@@ -42,14 +45,15 @@ fn fill_old(lent: &mut [u32]) {
     (0..lent.len()).for_each(|i| lent[i] = old_word(i.wrapping_sub(BEFORE)));
 }
 
-// Whether the words before the lent ones stay.
-fn before_stays(lent: &[u32]) -> bool {
-    (0..BEFORE).all(|i| lent[i] == old_word(i.wrapping_sub(BEFORE)))
+// Whether the words before the lent ones stay, and the lent ones from word `from` on.
+fn stays_from(lent: &[u32], from: usize) -> bool {
+    (0..BEFORE).chain(BEFORE + from..lent.len()).all(|i| lent[i] == old_word(i.wrapping_sub(BEFORE)))
 }
 
-// Whether those stay, and the lent ones from word `from` on.
-fn stays_from(lent: &[u32], from: usize) -> bool {
-    before_stays(lent) && (from..lent.len() - BEFORE).all(|i| lent[BEFORE + i] == old_word(i))
+// Whether the first lent words are these, in an order of channels, and all others stay.
+fn holds(lent: &[u32], words: &[u32], order: u32) -> bool {
+    let written = lent[BEFORE..][..words.len()].iter().zip(words).all(|(ours, word)| *ours == in_order(*word, order));
+    written && stays_from(lent, words.len())
 }
 
 // The first number of an order whose condition holds, or 0.
@@ -90,33 +94,35 @@ impl Shape {
     }
 }
 
-// A picture as our calls are asked for it: its data where that is lent, its size and depth, and the mode's number.
+// A picture as our calls are asked for it: its data where that is lent, its size and depth, and the numbers of the mode and of the order.
 #[derive(Clone, Copy)]
 struct Asked {
     at: *const u8,
     len: usize,
     s: Shape,
     mode: u32,
+    order: u32,
 }
 
 impl Asked {
     fn picture(self, image: &mut [u32]) -> u64 {
         let (w, h, depth) = self.s.numbers();
-        unsafe { plate_picture(self.at, self.len, w, h, depth, self.mode, image.as_mut_ptr(), image.len()) }
+        unsafe { plate_picture(self.at, self.len, w, h, depth, self.mode, self.order, image.as_mut_ptr(), image.len()) }
     }
 
     fn row(self, y: usize, row: &mut [u32]) -> u64 {
         let (w, h, depth) = self.s.numbers();
-        unsafe { plate_row(self.at, self.len, w, h, depth, self.mode, y as u64, row.as_mut_ptr(), row.len()) }
+        unsafe { plate_row(self.at, self.len, w, h, depth, self.mode, self.order, y as u64, row.as_mut_ptr(), row.len()) }
     }
 
     fn texel(self, x: usize, y: usize) -> u64 {
         let (w, h, depth) = self.s.numbers();
-        unsafe { plate_texel(self.at, self.len, w, h, depth, self.mode, x as u64, y as u64) }
+        unsafe { plate_texel(self.at, self.len, w, h, depth, self.mode, self.order, x as u64, y as u64) }
     }
 
     fn told(self) -> String {
-        format!("{} x {}, {} bits, mode {}, {} bytes", self.s.width, self.s.height, self.s.bits(), self.mode, self.len)
+        let (width, height, bits) = (self.s.width, self.s.height, self.s.bits());
+        format!("{width} x {height}, {bits} bits, mode {}, order {}, {} bytes", self.mode, self.order, self.len)
     }
 }
 
@@ -169,6 +175,8 @@ pub struct Comparison {
     out: Guarded,
     theirs: Vec<u32>,
     tallies: [Tally; CASES.len()],
+    // The pictures that were asked for, by their order's number.
+    orders: BTreeMap<u32, Tally>,
     by_original: u64,
     pvr: pvr::Counts,
     ktx: ktx::Counts,
@@ -222,6 +230,23 @@ impl Comparison {
         expected
     }
 
+    // The number of blue first, and one of red first's.
+    fn both_orders(&mut self) -> [u32; 2] {
+        [BLUE_FIRST, RED_NUMBERS[self.draw() as usize % RED_NUMBERS.len()]]
+    }
+
+    // What a call that writes a picture into `room` lent words answers, if it is wrong: if it is not the expected number, or the words are not
+    // so many texels of `theirs` in this order or, refused, what they were.
+    fn wrong_answer(&mut self, order: u32, expected: u64, texels: usize, room: usize, call: impl Fn(&mut [u32]) -> u64) -> Option<u64> {
+        let written = if expected == 0 { texels } else { 0 };
+        self.orders.entry(order).or_default().count(expected, written);
+        let lent = self.image.words(BEFORE + room);
+        fill_old(lent);
+        let answer = call(&mut lent[BEFORE..]);
+        let right = answer == expected && holds(lent, &self.theirs[..written], order);
+        if right { None } else { Some(answer) }
+    }
+
     // One picture of `data`, into `room` lent words, by the calls that take data, and as a KTX file.
     pub fn picture(&mut self, data: &[u8], s: Shape, room: usize) {
         self.decoded(data, s, room);
@@ -240,20 +265,21 @@ impl Comparison {
         self.calls(data, s, number, expected);
     }
 
-    // One picture in a mode, with its rows and some of its texels: the number must be the expected one, and the lent words as in `theirs`.
+    // One picture in a mode and in both orders, with its rows and some of its texels: the number must be the expected one, and the lent words those
+    // of `theirs`.
     fn calls(&mut self, data: &[u8], s: Shape, mode: u32, expected: u64) {
-        let (asked, room) = (Asked { at: self.lay(data), len: data.len(), s, mode }, self.theirs.len());
-        let lent = self.image.words(BEFORE + room);
-        fill_old(lent);
-        let answer = asked.picture(&mut lent[BEFORE..]);
-        if answer != expected || !before_stays(lent) || lent[BEFORE..] != self.theirs[..] {
-            self.differs(data.len() + room, format!("picture answers {answer}, expected {expected}: {}, {room} words", asked.told()));
-        }
-        self.tallies[case_of(s, mode)].count(expected, s.texels());
-        match expected {
-            0 => self.rows_and_texels(asked),
-            4 => (),
-            _ => self.row_and_texel(asked, 0, expected),
+        let (at, room) = (self.lay(data), self.theirs.len());
+        for order in self.both_orders() {
+            let asked = Asked { at, len: data.len(), s, mode, order };
+            if let Some(answer) = self.wrong_answer(order, expected, s.texels(), room, |image| asked.picture(image)) {
+                self.differs(data.len() + room, format!("picture answers {answer}, expected {expected}: {}, {room} words", asked.told()));
+            }
+            self.tallies[case_of(s, mode)].count(expected, s.texels());
+            match expected {
+                0 => self.rows_and_texels(asked),
+                4 => (),
+                _ => self.row_and_texel(asked, 0, expected),
+            }
         }
     }
 
@@ -285,20 +311,22 @@ impl Comparison {
         let width = asked.s.width;
         let (x, more) = (self.draw() as usize % width.max(1), self.draw() as usize % 3);
         let room = more + if matches!(refused, 1..=3) { 0 } else { width };
-        let written = if refused == 0 { width } else { 0 };
+        let theirs = if refused == 0 { &self.theirs[y * width..][..width] } else { &[] };
+        let expected = theirs.get(x).map_or(refused << 32, |word| in_order(*word, asked.order) as u64);
         let lent = self.row.words(BEFORE + room);
         fill_old(lent);
         let answer = asked.row(y, &mut lent[BEFORE..]);
-        let right = lent[BEFORE..][..written] == self.theirs[y * width..][..written];
-        if answer != refused || !stays_from(lent, written) || !right {
+        if answer != refused || !holds(lent, theirs, asked.order) {
             self.differs(asked.len + room, format!("row {y} answers {answer}, expected {refused}: {}, {room} words", asked.told()));
         }
-        let (texel, expected) = (asked.texel(x, y), if refused == 0 { self.theirs[y * width + x] as u64 } else { refused << 32 });
+        let texel = asked.texel(x, y);
         if texel != expected {
             self.differs(asked.len + room, format!("texel {x} {y} is {texel:x}, expected {expected:x}: {}", asked.told()));
         }
         if refused == 0 {
-            self.tallies[case_of(asked.s, asked.mode)].texels += width as u64 + 1;
+            for tally in [&mut self.tallies[case_of(asked.s, asked.mode)], self.orders.entry(asked.order).or_default()] {
+                tally.texels += width as u64 + 1;
+            }
         }
     }
 
@@ -366,7 +394,7 @@ fn where_we_differ() {
         let (data, mut image, s) = (vec![0; len], vec![0; room], Shape { width, height, is2bpp });
         let theirs = std::panic::catch_unwind(|| original::decode_pvrtc(&data, width, height, &mut vec![0; room], is2bpp));
         let said = theirs.map_or("panics".to_string(), |answer| format!("{answer:?}"));
-        let [rusts, stored] = [RUSTS, STORED].map(|mode| Asked { at: data.as_ptr(), len, s, mode }.picture(&mut image));
+        let [rusts, stored] = [RUSTS, STORED].map(|mode| Asked { at: data.as_ptr(), len, s, mode, order: BLUE_FIRST }.picture(&mut image));
         println!("| {width} × {height} at {}bpp, {len} bytes, {room} words | {said} | {rusts} | {stored} |", s.bits());
     }
     let _ = std::panic::take_hook();
@@ -380,7 +408,7 @@ const COUNTED: [&str; 8] = [
     "answers of the original",
     "refused",
     "texels compared",
-    "KTX files",
+    "KTX pictures",
     "refused",
     "texels compared",
 ];
@@ -389,18 +417,23 @@ impl Comparison {
     fn counts(&self) -> [u64; COUNTED.len()] {
         let sum = |of: fn(&Tally) -> u64| self.tallies.iter().map(of).sum();
         let (cases, refused, texels) = (sum(|t| t.cases), sum(|t| t.refused), sum(|t| t.texels));
-        let files = self.ktx.files;
-        [cases, self.tallies[LARGER_GRID].cases, self.by_original, refused, texels, files.cases, files.refused, files.texels]
+        let ktx = self.ktx.tally;
+        [cases, self.tallies[LARGER_GRID].cases, self.by_original, refused, texels, ktx.cases, ktx.refused, ktx.texels]
     }
 
-    // What the cases were.
+    // What the cases were, and how many pictures there were of each order's number.
     fn print_cases(&self) {
-        println!();
-        println!("| what was asked | cases | refused | texels compared |");
-        println!("|---|---|---|---|");
-        for (what, tally) in CASES.iter().zip(self.tallies) {
-            println!("| {what} | {} | {} | {} |", tally.cases, tally.refused, tally.texels);
-        }
+        print_tallies("what was asked", CASES.iter().zip(&self.tallies));
+        print_tallies("pictures, KTX pictures and levels by their order's number", &self.orders);
+    }
+}
+
+fn print_tallies<'a, T: std::fmt::Display>(what: &str, tallies: impl IntoIterator<Item = (T, &'a Tally)>) {
+    println!();
+    println!("| {what} | cases | refused | texels compared |");
+    println!("|---|---|---|---|");
+    for (name, tally) in tallies {
+        println!("| {name} | {} | {} | {} |", tally.cases, tally.refused, tally.texels);
     }
 }
 
@@ -420,6 +453,7 @@ fn main() {
         out: Guarded::new(OUT),
         theirs: Vec::new(),
         tallies: [Tally::default(); CASES.len()],
+        orders: BTreeMap::new(),
         by_original: 0,
         pvr: pvr::Counts::default(),
         ktx: ktx::Counts::default(),

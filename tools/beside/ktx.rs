@@ -4,7 +4,7 @@ use std::collections::BTreeMap;
 
 use crate::both::{draw, plate_convert, plate_ktx, plate_ktx_picture};
 use crate::shape::{Shape, RUSTS, STORED};
-use crate::{before_stays, bytes, field, fill_old, first, line, stays_from, Comparison, Tally, BEFORE, BY_HEADER, LARGE, OUT, WORDS};
+use crate::{bytes, field, first, line, Comparison, Tally, BY_HEADER, LARGE, OUT, WORDS};
 
 pub const IDENTIFIER: [u8; 12] = [0xab, 0x4b, 0x54, 0x58, 0x20, 0x31, 0x31, 0xbb, 0x0d, 0x0a, 0x1a, 0x0a];
 
@@ -17,7 +17,7 @@ const PROGRAM: [u64; 13] = [31, 32, 33, 34, 35, 21, 37, 1, 22, 23, 36, 3, 5];
 // store more blocks than cover them.
 #[derive(Default)]
 pub struct Counts {
-    pub files: Tally,
+    pub tally: Tally,
     pictures: BTreeMap<u64, u64>,
     larger: u64,
     outputs: BTreeMap<u64, u64>,
@@ -205,31 +205,24 @@ impl Comparison {
         self.converted(at, file, expected);
     }
 
-    // The fields of a KTX file, and its picture into `room` lent words: that in `theirs`, or as it was if it is refused.
+    // The fields of a KTX file, and its picture into `room` lent words in both orders: that in `theirs`, or as it was if it is refused.
     fn ktx_calls(&mut self, file: &[u8], room: usize) {
         let (at, read) = (self.lay(file), Reading(file));
         let fields = [0, 1, 2, 3, 4, 5, 6, u32::MAX].map(|n| unsafe { plate_ktx(at, file.len(), n) });
         if fields != read.fields() {
             self.differs(file.len(), format!("KTX header answers {fields:?}, expected {:?} for {}", read.fields(), bytes(file)));
         }
-        let expected = read.picture(room);
-        let lent = self.image.words(BEFORE + room);
-        fill_old(lent);
-        let answer = unsafe { plate_ktx_picture(at, file.len(), lent[BEFORE..].as_mut_ptr(), room) };
-        let right = match expected {
-            0 => before_stays(lent) && lent[BEFORE..] == self.theirs[..],
-            _ => stays_from(lent, 0),
-        };
-        if answer != expected || !right {
-            self.differs(file.len() + room, format!("KTX picture answers {answer}, expected {expected}: {room} words, {}", bytes(file)));
+        let (expected, s) = (read.picture(room), read.shape());
+        for order in self.both_orders() {
+            let call = |image: &mut [u32]| unsafe { plate_ktx_picture(at, file.len(), order, image.as_mut_ptr(), image.len()) };
+            if let Some(answer) = self.wrong_answer(order, expected, s.texels(), room, call) {
+                let asked = format!("order {order}, {room} words, {}", bytes(file));
+                self.differs(file.len() + room, format!("KTX picture answers {answer}, expected {expected}: {asked}"));
+            }
+            self.ktx.tally.count(expected, s.texels());
         }
-        self.count_ktx(expected, read.shape());
-    }
-
-    fn count_ktx(&mut self, refused: u64, s: Shape) {
-        self.ktx.files.count(refused, s.texels());
-        *self.ktx.pictures.entry(refused).or_default() += 1;
-        self.ktx.larger += (refused == 0 && s.has_more(STORED)) as u64;
+        *self.ktx.pictures.entry(expected).or_default() += 1;
+        self.ktx.larger += (expected == 0 && s.has_more(STORED)) as u64;
     }
 
     // A damaged KTX file: its data by the calls that take data, if its header is accepted; then the calls on the file, and the program's function.

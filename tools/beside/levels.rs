@@ -4,7 +4,7 @@ use std::collections::BTreeMap;
 
 use crate::both::{plate_level, plate_level_field};
 use crate::shape::{Shape, STORED};
-use crate::{before_stays, bytes, field, fill_old, first, ktx, pvr, stays_from, Comparison, BEFORE, LEVELS};
+use crate::{bytes, field, first, ktx, pvr, Comparison, LEVELS};
 
 // The refusals of a file's levels behind its header, then those of the asked level's size word, each in document 02's order.
 const COUNT: [u64; 4] = [1, 2, 20, 19];
@@ -143,8 +143,8 @@ pub fn most(s: Shape) -> u64 {
 }
 
 impl Comparison {
-    // A level of a file: its fields, and its picture into so many words more than it has, or as many less. The picture must be that of its own
-    // bytes, cut out.
+    // A level of a file: its fields, and its picture into so many words more than it has, or as many less, in both orders. The picture must be that
+    // of its own bytes, cut out.
     pub fn level(&mut self, file: &[u8], level: u64, more: isize) {
         let (at, read) = (self.lay(file), Reading { file, level });
         let fields = [0, 1, 2, 3, 4, 5, 6, u32::MAX].map(|n| unsafe { plate_level_field(at, file.len(), level, n) });
@@ -164,17 +164,14 @@ impl Comparison {
             self.levels.larger += (expected == 0 && s.has_more(STORED)) as u64;
             self.levels.later += (expected == 0 && level > 0) as u64;
         }
-        let lent = self.image.words(BEFORE + room);
-        fill_old(lent);
-        let answer = unsafe { plate_level(at, file.len(), level, lent[BEFORE..].as_mut_ptr(), room) };
-        let right = match expected {
-            0 => before_stays(lent) && lent[BEFORE..] == self.theirs[..],
-            _ => stays_from(lent, 0),
-        };
-        if answer != expected || !right {
-            self.differs(file.len() + room, format!("level {level} answers {answer}, expected {expected}: {room} words, {}", bytes(file)));
+        for order in self.both_orders() {
+            let call = |image: &mut [u32]| unsafe { plate_level(at, file.len(), level, order, image.as_mut_ptr(), image.len()) };
+            if let Some(answer) = self.wrong_answer(order, expected, texels, room, call) {
+                let asked = format!("order {order}, {room} words, {}", bytes(file));
+                self.differs(file.len() + room, format!("level {level} answers {answer}, expected {expected}: {asked}"));
+            }
+            self.tallies[LEVELS].count(expected, texels);
         }
-        self.tallies[LEVELS].count(expected, texels);
         let kind = read.is_ktx() as usize;
         *self.levels.described[kind].entry(described).or_default() += 1;
         *self.levels.decoded[kind].entry(expected).or_default() += 1;

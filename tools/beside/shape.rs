@@ -1,10 +1,20 @@
-// A picture's size and depth, its grid and its need in a mode, and the original's picture of it in either mode.
+// A picture's size and depth, its grid and its need in a mode, the original's picture of it in either mode, and that picture's words in either order.
 
 use crate::both::original;
 
 // The number of the Rust's mode, and one of the stored mode's: every other number is.
 pub const RUSTS: u32 = 0;
 pub const STORED: u32 = 1;
+
+// The number of blue first, and one of red first's: every other number is.
+pub const BLUE_FIRST: u32 = 0;
+pub const RED_FIRST: u32 = 1;
+
+// A word of the original, which is blue first, in an order: red first, its low and its third byte are exchanged.
+pub fn in_order(word: u32, order: u32) -> u32 {
+    let [first, second, third, fourth] = word.to_le_bytes();
+    if order == BLUE_FIRST { word } else { u32::from_le_bytes([third, second, first, fourth]) }
+}
 
 #[derive(Clone, Copy)]
 pub struct Shape {

@@ -7,7 +7,8 @@ use Rattle.levels.specs.Levels.{levelOf, pictureOf, levelData}
 use Rattle.levels.specs.Refusals.{levelRefusal, decodeRefusal}
 use Rattle.levels.specs.declared.Level.{Level}
 use Rattle.paint.specs.Sheet.{onSheet}
-use Rattle.pvrtc.specs.Picture.{sheetOf, pictureTexel}
+use Rattle.pixel.specs.declared.ChannelOrder.{ChannelOrder}
+use Rattle.pvrtc.specs.Picture.{inOrder, sheetOf, pictureTexel}
 use Rattle.capi.specs.Plate.{Wrote, sizedField, fieldOf}
 
 -- A field of a described level: 1 width, 2 height, 3 bits a texel, 4 where its bytes start, 5 how many it needs; any other is 0.
@@ -18,7 +19,8 @@ describedField level field = sizedField (level .width) (level .height) (bitsOf (
 abbrev pub levelField : List ℕ → ℕ → ℕ → ℕ
 levelField file k field = fieldOf (levelRefusal file k) (describedField (levelOf file k) field) field
 
--- Its picture: texel (x, y) at word y × width + x.
-abbrev pub WroteLevel : List ℕ → ℕ → (old new : List ℕ) → ℕ → Type 0
-WroteLevel file k old new r =
-    Wrote (decodeRefusal file k (length old)) (onSheet (sheetOf (pictureOf file k)) (pictureTexel (pictureOf file k) (levelData file k)) old) old new r
+-- Its picture in an order of channels: texel (x, y) at word y × width + x.
+abbrev pub WroteLevel : ChannelOrder → List ℕ → ℕ → (old new : List ℕ) → ℕ → Type 0
+WroteLevel order file k old new r =
+    Wrote (decodeRefusal file k (length old))
+    (onSheet (sheetOf (pictureOf file k)) (pictureTexel (inOrder order (pictureOf file k)) (levelData file k)) old) old new r

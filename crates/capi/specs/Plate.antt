@@ -9,6 +9,8 @@ use Rattle.paint.specs.Paint.{painted}
 use Rattle.paint.specs.Sheet.{onSheet}
 use Rattle.files.specs.Fields.{bitsOf, unlessRefused}
 use Rattle.pvr.specs.Header.{headerRefusal, widthField, heightField, isTwo, payloadOffset}
+use Rattle.pixel.specs.declared.ChannelOrder.{ChannelOrder}
+use Rattle.pixel.specs.declared.ChannelOrder.the-variants.{BlueFirst, RedFirst}
 use Rattle.pvrtc.specs.Calls.{refusal}
 use Rattle.pvrtc.specs.Picture.{picture, sheetOf, pictureTexel}
 use Rattle.pvrtc.specs.declared.Call.the-variants as call
@@ -20,9 +22,13 @@ use Rattle.pvrtc.specs.declared.Picture.{Picture}
 abbrev pub modeOf : ℕ → GridMode
 modeOf mode = cond (eqb mode 0) Rust Stored
 
+-- Order 0 is blue first, any other number red first.
+abbrev pub orderOf : ℕ → ChannelOrder
+orderOf order = cond (eqb order 0) BlueFirst RedFirst
+
 -- Depth 0 is 4bpp, any other number 2bpp.
-abbrev pub plate : (width height depth mode : ℕ) → Picture
-plate width height depth mode = picture width height (not (eqb depth 0)) (modeOf mode)
+abbrev pub plate : (width height depth mode order : ℕ) → Picture
+plate width height depth mode order = picture width height (not (eqb depth 0)) (modeOf mode) (orderOf order)
 
 -- The texel in the low 32 bits, the refusal's number above, and the texel 0 when refused.
 abbrev pub texelAnswer : Picture → List ℕ → ℕ → ℕ → ℕ

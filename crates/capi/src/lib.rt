@@ -4,10 +4,11 @@ ghost use mathlib.Core.Bool.{cond};
 ghost use lib.Dec.{eqb};
 ghost use Rattle.files.specs.Fields.{bitsOf};
 ghost use Rattle.pvrtc.specs.Refusals.{decodedNumber};
-ghost use Rattle.capi.specs.Plate.{modeOf, plate, texelAnswer, WroteRow, WrotePicture, headerField, plateField, sizedField};
+ghost use Rattle.capi.specs.Plate.{modeOf, orderOf, plate, texelAnswer, WroteRow, WrotePicture, headerField, plateField, sizedField};
 ghost use Rattle.capi.specs.Ktx.{ktxField, WroteKtx};
 ghost use Rattle.capi.specs.Level.{levelField, WroteLevel};
 use levels::Described;
+use pixel::ChannelOrder;
 use pvr::Header;
 use pvrtc::Decoded;
 use pvrtc::GridMode;
@@ -25,15 +26,27 @@ fn mode_of(mode: u32) -> GridMode
     }
 }
 
+// The order by C's number: 0 is blue first, any other red first.
+fn order_of(order: u32) -> ChannelOrder
+    ensures { λ r. ⌜ r ≡ orderOf order ⌝ }
+{
+    if order == 0 {
+        ChannelOrder::BlueFirst
+    } else {
+        ChannelOrder::RedFirst
+    }
+}
+
 // The description of a picture by C's numbers: depth 0 is 4bpp, any other 2bpp.
-fn picture_of(width: u64, height: u64, depth: u32, mode: u32) -> Picture
-    ensures { λ r. ⌜ r ≡ plate width height depth mode ⌝ }
+fn picture_of(width: u64, height: u64, depth: u32, mode: u32, order: u32) -> Picture
+    ensures { λ r. ⌜ r ≡ plate width height depth mode order ⌝ }
 {
     Picture {
         width: width as usize,
         height: height as usize,
         is2bpp: depth != 0,
         mode: mode_of(mode),
+        order: order_of(order),
     }
 }
 
@@ -45,12 +58,13 @@ pub extern "C" fn plate_texel(
     height: u64,
     depth: u32,
     mode: u32,
+    order: u32,
     x: u64,
     y: u64,
 ) -> u64
-    ensures { λ r. ⌜ r ≡ texelAnswer (plate width height depth mode) (now («data» .entry)) x y ⌝ }
+    ensures { λ r. ⌜ r ≡ texelAnswer (plate width height depth mode order) (now («data» .entry)) x y ⌝ }
 {
-    let p = picture_of(width, height, depth, mode);
+    let p = picture_of(width, height, depth, mode, order);
     let answer = pvrtc::decode_texel(data, p, x as usize, y as usize);
     match answer {
         Texel::Word(word) => word as u64,
@@ -76,12 +90,13 @@ pub extern "C" fn plate_row(
     height: u64,
     depth: u32,
     mode: u32,
+    order: u32,
     y: u64,
     row: &mut [u32],
 ) -> u64
-    ensures { λ r. ⌜ WroteRow (plate width height depth mode) (now («data» .entry)) y (now (row .entry)) (now (row .exit)) r ⌝ }
+    ensures { λ r. ⌜ WroteRow (plate width height depth mode order) (now («data» .entry)) y (now (row .entry)) (now (row .exit)) r ⌝ }
 {
-    let p = picture_of(width, height, depth, mode);
+    let p = picture_of(width, height, depth, mode, order);
     number_of(pvrtc::decode_row(data, p, y as usize, row))
 }
 
@@ -93,11 +108,12 @@ pub extern "C" fn plate_picture(
     height: u64,
     depth: u32,
     mode: u32,
+    order: u32,
     image: &mut [u32],
 ) -> u64
-    ensures { λ r. ⌜ WrotePicture (plate width height depth mode) (now («data» .entry)) (now (image .entry)) (now (image .exit)) r ⌝ }
+    ensures { λ r. ⌜ WrotePicture (plate width height depth mode order) (now («data» .entry)) (now (image .entry)) (now (image .exit)) r ⌝ }
 {
-    number_of(pvrtc::decode_picture(data, picture_of(width, height, depth, mode), image))
+    number_of(pvrtc::decode_picture(data, picture_of(width, height, depth, mode, order), image))
 }
 
 // A field of a PVR file's header.
@@ -137,10 +153,10 @@ pub extern "C" fn plate_ktx(file: &[u8], field: u32) -> u64
 
 // The picture of a KTX file into lent words.
 #[no_mangle]
-pub extern "C" fn plate_ktx_picture(file: &[u8], image: &mut [u32]) -> u64
-    ensures { λ r. ⌜ WroteKtx (now (file .entry)) (now (image .entry)) (now (image .exit)) r ⌝ }
+pub extern "C" fn plate_ktx_picture(file: &[u8], order: u32, image: &mut [u32]) -> u64
+    ensures { λ r. ⌜ WroteKtx (orderOf order) (now (file .entry)) (now (image .entry)) (now (image .exit)) r ⌝ }
 {
-    ktx::decoded_number(ktx::decode_ktx(file, image))
+    ktx::decoded_number(ktx::decode_ktx(file, order_of(order), image))
 }
 
 // A field of a level of a PVR or a KTX file.
@@ -164,10 +180,10 @@ pub extern "C" fn plate_level_field(file: &[u8], level: u64, field: u32) -> u64
 
 // A level of a PVR or a KTX file into lent words.
 #[no_mangle]
-pub extern "C" fn plate_level(file: &[u8], level: u64, image: &mut [u32]) -> u64
-    ensures { λ r. ⌜ WroteLevel (now (file .entry)) level (now (image .entry)) (now (image .exit)) r ⌝ }
+pub extern "C" fn plate_level(file: &[u8], level: u64, order: u32, image: &mut [u32]) -> u64
+    ensures { λ r. ⌜ WroteLevel (orderOf order) (now (file .entry)) level (now (image .entry)) (now (image .exit)) r ⌝ }
 {
-    levels::decoded_number(levels::decode_level(file, level as usize, image))
+    levels::decoded_number(levels::decode_level(file, level as usize, order_of(order), image))
 }
 
 // A field of a refused header.

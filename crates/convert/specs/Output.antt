@@ -18,6 +18,7 @@ use Rattle.pvr.specs.Reading.{pvrSays}
 use Rattle.ktx.specs.Header as ktx
 use Rattle.ktx.specs.Header.{isKtx}
 use Rattle.ktx.specs.Reading.{ktxSays}
+use Rattle.pixel.specs.declared.ChannelOrder.the-variants.{BlueFirst}
 use Rattle.pvrtc.specs.Picture.{picture, sheetOf, pictureTexel}
 use Rattle.pvrtc.specs.Refusals.{need, zeroSide, dataChecks, gridChecks}
 use Rattle.pvrtc.specs.declared.GridMode.the-variants as mode
@@ -35,9 +36,9 @@ headerRefusal file = firstOf (saysOf file .refusals)
 abbrev pub storedIn : List ℕ → Stored
 storedIn file = saysOf file .plate
 
--- A stored plate's picture, with the stored grid, and that of a file.
+-- A stored plate's picture, with the stored grid and blue first, as a TGA has it; and that of a file.
 abbrev pub pictureOf : Stored → Picture
-pictureOf s = picture (s .width) (s .height) (s .is2bpp) mode.Stored
+pictureOf s = picture (s .width) (s .height) (s .is2bpp) mode.Stored BlueFirst
 
 abbrev pub plateOf : List ℕ → Picture
 plateOf file = pictureOf (storedIn file)

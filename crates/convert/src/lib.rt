@@ -11,6 +11,7 @@ ghost use Rattle.convert.specs.Output.{Room, Converted, ConvertedInRoom}
 ghost use Rattle.convert.specs.Inner.{PlateConverted, Laid, TgaFits};
 use files::Reading;
 use files::Stored;
+use pixel::ChannelOrder;
 use pvrtc::Decoded;
 use pvrtc::GridMode;
 use pvrtc::Picture;
@@ -25,11 +26,17 @@ fn read_file(file: &[u8]) -> Reading
     pvr::read_plate(file)
 }
 
-// The picture of a stored plate, with the grid that files store.
+// The picture of a stored plate, with the grid that files store. A TGA has blue first.
 fn picture_of(s: Stored) -> Picture
     ensures { λ r. ⌜ r ≡ pictureOf s ⌝ }
 {
-    pvrtc::picture_of(s.width, s.height, s.is2bpp, GridMode::Stored)
+    pvrtc::picture_of(
+        s.width,
+        s.height,
+        s.is2bpp,
+        GridMode::Stored,
+        ChannelOrder::BlueFirst,
+    )
 }
 
 fn has_long_side(p: Picture) -> bool

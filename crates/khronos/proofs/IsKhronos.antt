@@ -12,10 +12,13 @@ use Rattle.grid.proofs.Torus.{beside-own, beside-below}
 use Rattle.word.specs.Word.{wordOf}
 use Rattle.word.specs.declared.PVRTCTexelColor.{PVRTCTexelColor}
 use Rattle.word.specs.declared.PVRTCTexelInfo.{PVRTCTexelInfo}
-use Rattle.texel.specs.Texel.{Words, nineSum, blended, filled, ruleAt, punched, about, mixed, packed, texelIn, texelAt, wordsOf}
+use Rattle.pixel.specs.Pixel.{Pixel, packed}
+use Rattle.pixel.specs.declared.ChannelOrder.{ChannelOrder}
+use Rattle.pixel.specs.declared.ChannelOrder.the-variants.{BlueFirst, RedFirst}
+use Rattle.texel.specs.Texel.{Words, nineSum, blended, filled, ruleAt, punched, about, mixed, texelIn, texelAt, wordsOf}
 use Rattle.texel.proofs.Same.{look-same}
 use Rattle.texel.proofs.Shares.{half-low}
-use Rattle.khronos.specs.Agrees.{Bytes, Same, Agrees, PictureAgrees}
+use Rattle.khronos.specs.Agrees.{Bytes, Same, Agrees, word32, PictureAgrees}
 use Rattle.khronos.specs.Khronos.{Color, word64, imageA, imageB, bilinear, modulation, punchThrough, modulated, khronosTexel}
 use Rattle.khronos.specs.Storage.{wordIndex, wordBytesAt}
 use Rattle.khronos.proofs.Images.{image-a, image-b}
@@ -82,11 +85,16 @@ module _ (two : Bool) (gx gy : ℕ) (bytes : ℕ → ℕ → List ℕ) (l : (i j
 pub agrees : (two : Bool) (gx gy : ℕ) (bytes : ℕ → ℕ → List ℕ) → ((i j : ℕ) → Bytes (bytes i j)) → Agrees two gx gy bytes
 agrees = same
 
+-- the words of one texel, in either order
+words-same : (order : ChannelOrder) {p : Pixel} {c : Color} → Same p c → packed order p ≡ word32 order c
+words-same BlueFirst t = rw (t .red, t .green, t .blue, t .alpha)
+words-same RedFirst t = rw (t .red, t .green, t .blue, t .alpha)
+
 -- so each word of a picture, whose words Khronos finds where document 01 does
-pub is-khronos : (two : Bool) (gx gy : ℕ) (d : List ℕ) → Bytes d → PictureAgrees two gx gy d
-is-khronos two gx gy d l px py fx fy x y hx hy =
-    ap packed (look-same (half two) gx gy x y (half-low two) (wordsOf two gx gy d) (λ i j. wordOf two (bytes i j)) (λ i j _ _. found i j))
-    ∙ rw (t .red, t .green, t .blue, t .alpha)
+pub is-khronos : (order : ChannelOrder) (two : Bool) (gx gy : ℕ) (d : List ℕ) → Bytes d → PictureAgrees order two gx gy d
+is-khronos order two gx gy d l px py fx fy x y hx hy =
+    ap (packed order) (look-same (half two) gx gy x y (half-low two) (wordsOf two gx gy d) (λ i j. wordOf two (bytes i j)) (λ i j _ _. found i j))
+    ∙ words-same order t
   where
     bytes : ℕ → ℕ → List ℕ
     bytes i j = wordBytesAt gx gy d i j

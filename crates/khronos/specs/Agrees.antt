@@ -6,7 +6,10 @@ use Prim.Native.Nat.{ℕ, _+_, _*_, _/_, _≤_, _<_, max}
 use lib.ListN.{getD}
 use Rattle.grid.specs.Grid.{half, blockWidth, blocks, Power, blockAddress}
 use Rattle.word.specs.Word.{wordOf}
-use Rattle.texel.specs.Texel.{Pixel, texelAt, texelWord}
+use Rattle.pixel.specs.Pixel.{Pixel}
+use Rattle.pixel.specs.declared.ChannelOrder.{ChannelOrder}
+use Rattle.pixel.specs.declared.ChannelOrder.the-variants.{BlueFirst, RedFirst}
+use Rattle.texel.specs.Texel.{texelAt, texelWord}
 use Rattle.khronos.specs.Khronos.{Color, word64, khronosTexel}
 use Rattle.khronos.specs.Storage.{blocksAlong, storedAlong, wordIndex, khronosPicture}
 
@@ -34,12 +37,13 @@ pub record SameStorage : Type 0 where
   pub stored : (size side : ℕ) → 0 < size → storedAlong size side ≡ max 2 (blocks size side)
   pub order : (gx gy x y : ℕ) → Power gx → Power gy → gx ≤ 65536 → gy ≤ 65536 → x < gx → y < gy → wordIndex gx gy x y ≡ blockAddress gx gy x y
 
--- The word of a colour of 8 bits a channel: blue lowest, alpha on top.
-abbrev pub word32 : Color → ℕ
-word32 c = c .blue + 256 * c .green + 65536 * c .red + 16777216 * c .alpha
+-- The word of a colour of 8 bits a channel: blue lowest, or red; alpha on top.
+abbrev pub word32 : ChannelOrder → Color → ℕ
+word32 BlueFirst c = c .blue + 256 * c .green + 65536 * c .red + 16777216 * c .alpha
+word32 RedFirst c = c .red + 256 * c .green + 65536 * c .blue + 16777216 * c .alpha
 
--- Each word of a picture whose grid has powers of two as its sides, up to 65,536, is that of the colour that Khronos describes.
-abbrev pub PictureAgrees : Bool → (gx gy : ℕ) → List ℕ → Type 0
-PictureAgrees two gx gy d =
+-- In either order, each word of a picture whose grid has powers of two as its sides, up to 65,536, is that of the colour that Khronos describes.
+abbrev pub PictureAgrees : ChannelOrder → Bool → (gx gy : ℕ) → List ℕ → Type 0
+PictureAgrees order two gx gy d =
     Power gx → Power gy → gx ≤ 65536 → gy ≤ 65536 → (x y : ℕ) → x / blockWidth two < gx → y / 4 < gy
-    → texelWord two gx gy d x y ≡ word32 (khronosPicture two gx gy d x y)
+    → texelWord order two gx gy d x y ≡ word32 order (khronosPicture two gx gy d x y)

@@ -16,7 +16,8 @@ use Rattle.files.proofs.Answers.{SameSays, SameHead}
 use Rattle.files.proofs.Fields.{same-field, field-before, field-kept, rest-same}
 use Rattle.files.proofs.Starts.{same-start}
 use Rattle.paint.specs.Sheet.{onSheet}
-use Rattle.pvrtc.specs.Picture.{sheetOf, pictureTexel}
+use Rattle.pixel.specs.declared.ChannelOrder.{ChannelOrder}
+use Rattle.pvrtc.specs.Picture.{inOrder, sheetOf, pictureTexel}
 use Rattle.pvrtc.specs.declared.Picture.{Picture}
 use Rattle.ktx.specs.declared.Decoded.{Decoded}
 use Rattle.ktx.specs.declared.Header.{Header}
@@ -143,10 +144,11 @@ module _ {f g : List ℕ} (s : SameHeader f g) where
       ∙ sym (first-append (headerChecks g) _ tt)
 
   -- and where the data is the same, its picture
-  pub same-decoded : levelData f ≡ levelData g → {old new : List ℕ} {r : Decoded} → KtxDecoded f old new r → KtxDecoded g old new r
-  same-decoded same-data {old} a =
+  pub same-decoded : levelData f ≡ levelData g → {order : ChannelOrder} {old new : List ℕ} {r : Decoded} → KtxDecoded order f old new r
+      → KtxDecoded order g old new r
+  same-decoded same-data {order} {old} a =
       let e = same-refusal (ap length same-data) (length old) in
-      record { number = a .number ∙ e; words = a .words ∙ words-alike old e same-picture same-data }
+      record { number = a .number ∙ e; words = a .words ∙ words-alike old e (ap (inOrder order) same-picture) same-data }
 
 pub header-turned : {f g : List ℕ} → SameHeader f g → SameHeader g f
 header-turned {f} {g} s =

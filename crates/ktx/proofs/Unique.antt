@@ -5,6 +5,7 @@ use mathlib.Core.List.{List}
 use Prim.Native.Nat.{ℕ, _≤_}
 use native.Mathlib.Omega.{arith}
 use lib.Dec.{eqb}
+use Rattle.pixel.specs.declared.ChannelOrder.{ChannelOrder}
 use Rattle.pvrtc.proofs.Unique as call
 use Rattle.files.proofs.Fields.{same-depth}
 use Rattle.ktx.specs.declared.Decoded.{Decoded}
@@ -91,5 +92,6 @@ same-decoded (decoded.Refused f) decoded.OtherSize e = absurd (omega (arith, cal
 same-decoded (decoded.Refused f) (decoded.Refused g) e = ap decoded.Refused (call.same-refusal f g e)
 
 -- decoding a file
-pub one-decoded : {file old new new' : List ℕ} {r s : Decoded} → KtxDecoded file old new r → KtxDecoded file old new' s → (r ≡ s) × (new ≡ new')
+pub one-decoded : {order : ChannelOrder} {file old new new' : List ℕ} {r s : Decoded} → KtxDecoded order file old new r → KtxDecoded order file old new' s
+    → (r ≡ s) × (new ≡ new')
 one-decoded {r = r} {s = s} a b = (same-decoded r s (a .number ∙ sym (b .number)), a .words ∙ sym (b .words))

@@ -10,8 +10,10 @@ use lib.Seq.{take-all}
 use borrow.Author.Tests.{eqb-true, ltb-false, ne-eqb}
 use Rattle.facts.specs.Checks.{Check, firstOf}
 use Rattle.facts.proofs.Checks.{none-said, neither-said, first-append, said-first}
+use Rattle.pixel.specs.declared.ChannelOrder.{ChannelOrder}
+use Rattle.pvrtc.proofs.Orders.{room-in, refusal-in}
 use Rattle.pvrtc.specs.Calls.{refusal, BlockDecoded}
-use Rattle.pvrtc.specs.Picture.{picture}
+use Rattle.pvrtc.specs.Picture.{picture, inOrder}
 use Rattle.pvrtc.specs.Refusals.{need}
 use Rattle.pvrtc.specs.declared.Call.the-variants.{Block}
 use Rattle.pvrtc.specs.declared.Decoded.{Decoded as Called}
@@ -44,8 +46,8 @@ sized-same ep es ed a = rw (← ep, ← es, ← ed) a
 
 module _ (file old : List ℕ) {header : Header} (read : HeaderRead file header) where
   -- the header is refused: its number, and the words as they were
-  pub by-header : {f : HeaderRefusal} → header ≡ Refused f → KtxDecoded file old old (Unread f)
-  by-header {f} e =
+  pub by-header : {order : ChannelOrder} {f : HeaderRefusal} → header ≡ Refused f → KtxDecoded order file old old (Unread f)
+  by-header {f = f} e =
       let first : numberOf f ≡ headerRefusal file = sym (ap headerNumber e) ∙ read .number in
       let number : numberOf f ≡ pictureRefusal file (length old) = said-first (headerChecks file) _ tt first (number-above f) in
       let other : eqb (pictureRefusal file (length old)) 0 ≡ false = ne-eqb (pictureRefusal file (length old)) 0 (λ z. omega (arith, number-above f)) in
@@ -59,36 +61,43 @@ module _ (file old : List ℕ) {header : Header} (read : HeaderRead file header)
     within = omega (arith, payload-within file (plate .accepted), plate .payload)
 
     -- it is accepted: what is said of its picture
-    pub by-picture : {new : List ℕ} {r : Decoded} → SizedDecoded (picture w h two Stored) size (take (length file - at) (drop at file)) old new r
-        → KtxDecoded file old new r
-    by-picture {new} {r} a = record { number = b .number ∙ sym speaks; words = rw speaks (b .words) }
+    pub by-picture : {order : ChannelOrder} {new : List ℕ} {r : Decoded}
+        → SizedDecoded (picture w h two Stored order) size (take (length file - at) (drop at file)) old new r → KtxDecoded order file old new r
+    by-picture {order} {new} {r} a = record { number = b .number ∙ sym speaks; words = rw speaks (b .words) }
       where
-        same-plate : picture w h two Stored ≡ plateOf file
+        same-plate : picture w h two Stored order ≡ inOrder order (plateOf file)
         same-plate = rw (plate .width, plate .height, plate .depth)
 
         same-data : take (length file - at) (drop at file) ≡ levelData file
         same-data =
             take-all (length file - at) (drop at file) (omega (arith, length-drop at file)) ∙ ap (λ (n : ℕ). drop n file) (plate .payload)
 
-        b : SizedDecoded (plateOf file) (sizeWord file) (levelData file) old new r
+        b : SizedDecoded (inOrder order (plateOf file)) (sizeWord file) (levelData file) old new r
         b = sized-same same-plate (plate .said) same-data a
 
-        speaks : pictureRefusal file (length old) ≡ firstOf (sizedChecks (plateOf file) (sizeWord file) (length (levelData file)) (length old))
-        speaks = picture-speaks file (length old) (plate .accepted)
+        speaks : pictureRefusal file (length old)
+            ≡ firstOf (sizedChecks (inOrder order (plateOf file)) (sizeWord file) (length (levelData file)) (length old))
+        speaks = picture-speaks file (length old) (plate .accepted) ∙ rw (room-in order (plateOf file) (Block (length old)))
 
 -- where the size word is the need, a file whose header is accepted is decoded as the block call decodes its data
 module _ (file : List ℕ) (accepted : headerRefusal file ≡ 0) (fits : sizeWord file ≡ need (plateOf file)) where
   pub call-decides : (room : ℕ) → pictureRefusal file room ≡ refusal (plateOf file) (Block room) (levelData file)
   call-decides room = picture-speaks file room accepted ∙ call-speaks (plateOf file) (sizeWord file) (length (levelData file)) room fits
 
-  pub as-block : {old new : List ℕ} (r : Called) → KtxDecoded file old new (calledAs r) → BlockDecoded (plateOf file) (levelData file) old new r
-  as-block {old} r a =
-      let e = call-decides (length old) in
+  -- in either order
+  decides-in : (order : ChannelOrder) (room : ℕ) → pictureRefusal file room ≡ refusal (inOrder order (plateOf file)) (Block room) (levelData file)
+  decides-in order room = call-decides room ∙ sym (refusal-in order (plateOf file) (Block room) (levelData file))
+
+  pub as-block : {order : ChannelOrder} {old new : List ℕ} (r : Called) → KtxDecoded order file old new (calledAs r)
+      → BlockDecoded (inOrder order (plateOf file)) (levelData file) old new r
+  as-block {order} {old} r a =
+      let e = decides-in order (length old) in
       record { number = sym (same-number r) ∙ a .number ∙ e; words = rw (← e) (a .words) }
 
-  pub of-block : {old new : List ℕ} (r : Called) → BlockDecoded (plateOf file) (levelData file) old new r → KtxDecoded file old new (calledAs r)
-  of-block {old} r b =
-      let e = call-decides (length old) in
+  pub of-block : {order : ChannelOrder} {old new : List ℕ} (r : Called) → BlockDecoded (inOrder order (plateOf file)) (levelData file) old new r
+      → KtxDecoded order file old new (calledAs r)
+  of-block {order} {old} r b =
+      let e = decides-in order (length old) in
       record { number = same-number r ∙ b .number ∙ sym e; words = rw e (b .words) }
 
 -- and a file that is decoded has both

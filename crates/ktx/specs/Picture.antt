@@ -7,7 +7,9 @@ use lib.Dec.{eqb}
 use lib.ListN.{length, drop}
 use Rattle.facts.specs.Checks.{Check, check, firstOf}
 use Rattle.paint.specs.Sheet.{onSheet}
-use Rattle.pvrtc.specs.Picture.{picture, sheetOf, pictureTexel}
+use Rattle.pixel.specs.declared.ChannelOrder.{ChannelOrder}
+use Rattle.pixel.specs.declared.ChannelOrder.the-variants.{BlueFirst}
+use Rattle.pvrtc.specs.Picture.{picture, inOrder, sheetOf, pictureTexel}
 use Rattle.pvrtc.specs.Refusals as call
 use Rattle.pvrtc.specs.Refusals.{need, sizeChecks, dataChecks, roomChecks, gridChecks}
 use Rattle.pvrtc.specs.declared.Call.the-variants.{Block}
@@ -17,9 +19,9 @@ use Rattle.ktx.specs.Header.{widthField, heightField, isTwo, sizeWord, p
 use Rattle.ktx.specs.declared.Decoded.{Decoded}
 use Rattle.ktx.specs.declared.Decoded.the-variants.{Done, Unread, OtherSize, Refused}
 
--- The plate that a header describes. A file has the stored grid.
+-- The plate that a header describes. A file has the stored grid, and says no order: blue first.
 abbrev pub plateOf : List ℕ → Picture
-plateOf file = picture (widthField file) (heightField file) (isTwo file) Stored
+plateOf file = picture (widthField file) (heightField file) (isTwo file) Stored BlueFirst
 
 -- The data of level 0 follows the size word.
 abbrev pub levelData : List ℕ → List ℕ
@@ -50,9 +52,10 @@ decodedNumber (Unread f) = numberOf f
 decodedNumber OtherSize = 36
 decodedNumber (Refused f) = call.numberOf f
 
--- Decoding a file: its number, and the lent words afterwards. Where the number is 0, texel (x, y) stands at word y × width + x and later words
--- are as they were; else all are.
-pub record KtxDecoded (file old new : List ℕ) (r : Decoded) : Type 0 where
+-- Decoding a file in an order of channels: its number, and the lent words afterwards. Where the number is 0, texel (x, y) stands at word
+-- y × width + x and later words are as they were; else all are.
+pub record KtxDecoded (order : ChannelOrder) (file old new : List ℕ) (r : Decoded) : Type 0 where
   pub number : decodedNumber r ≡ pictureRefusal file (length old)
   pub words : new
-      ≡ cond (eqb (pictureRefusal file (length old)) 0) (onSheet (sheetOf (plateOf file)) (pictureTexel (plateOf file) (levelData file)) old) old
+      ≡ cond (eqb (pictureRefusal file (length old)) 0)
+      (onSheet (sheetOf (plateOf file)) (pictureTexel (inOrder order (plateOf file)) (levelData file)) old) old

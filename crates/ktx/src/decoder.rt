@@ -6,6 +6,7 @@ use crate::reader::read_header;
 ghost use mathlib.Core.Path.{_≡_};
 ghost use Rattle.ktx.specs.Picture.{decodedNumber, KtxDecoded};
 ghost use Rattle.ktx.specs.Inner.{calledAs, SizedDecoded};
+use pixel::ChannelOrder;
 use pvrtc::GridMode;
 use pvrtc::Picture;
 
@@ -45,9 +46,10 @@ fn decode_sized(data: &[u8], p: Picture, size: u32, image: &mut [u32]) -> Decode
     as_called(pvrtc::decode_picture(data, p, image))
 }
 
-// The picture of a file into lent words, as the block call writes it in the stored mode; or the first refusal whose condition holds.
-pub fn decode_ktx(file: &[u8], image: &mut [u32]) -> Decoded
-    ensures { λ r. ⌜ KtxDecoded (now (file .entry)) (now (image .entry)) (now (image .exit)) r ⌝ }
+// The picture of a file into lent words, as the block call writes it in the stored mode and this order of channels; or the first refusal whose
+// condition holds.
+pub fn decode_ktx(file: &[u8], order: ChannelOrder, image: &mut [u32]) -> Decoded
+    ensures { λ r. ⌜ KtxDecoded order (now (file .entry)) (now (image .entry)) (now (image .exit)) r ⌝ }
 {
     let header = read_header(file);
     match header {
@@ -59,7 +61,7 @@ pub fn decode_ktx(file: &[u8], image: &mut [u32]) -> Decoded
             payload,
             size,
         } => {
-            let p = pvrtc::picture_of(width, height, is2bpp, GridMode::Stored);
+            let p = pvrtc::picture_of(width, height, is2bpp, GridMode::Stored, order);
             decode_sized(&file[payload..], p, size, image)
         }
     }

@@ -8,14 +8,17 @@ use native.Mathlib.Omega.{arith}
 use lib.Bits.{bitAnd, and-block, and-high, and-le-l, and-le-r, and-mask, and-mod, and-zero-r}
 use Rattle.facts.proofs.Numbers.{cond-le}
 use Rattle.grid.specs.Grid.{half}
+use Rattle.pixel.specs.Pixel.{packed, EightBits}
+use Rattle.pixel.specs.declared.ChannelOrder.{ChannelOrder}
+use Rattle.pixel.specs.declared.ChannelOrder.the-variants.{BlueFirst, RedFirst}
 use Rattle.texel.specs.declared.PVRTCTexelColorInt.{PVRTCTexelColorInt}
-use Rattle.texel.specs.Inner.{toBytes, pixel, Low, EightBits}
-use Rattle.texel.specs.Texel.{scaleColor, scaleAlpha, blended, packed, blend}
+use Rattle.texel.specs.Inner.{toBytes, pixel, Low}
+use Rattle.texel.specs.Texel.{scaleColor, scaleAlpha, blended, blend}
 use Rattle.texel.proofs.Blend as texel
-use Rattle.lanes.specs.Lanes.{lanes, widened, bytes, clear, multiples, top, grown, fitted, bias, joined, mixedLanes, texelLanes, Mask}
+use Rattle.lanes.specs.Lanes.{lanes, channelLanes, bytes, clear, multiples, top, grown, fitted, bias, joined, mixedLanes, texelLanes, Mask}
 
 -- a mask acts on each lane apart
-step : (x rest low m v : ℕ) → x < 65536 → low < 65536 → bitAnd x low ≡ v → bitAnd (x + 65536 * rest) (low + 65536 * m) ≡ v + 65536 * bitAnd rest m
+pub step : (x rest low m v : ℕ) → x < 65536 → low < 65536 → bitAnd x low ≡ v → bitAnd (x + 65536 * rest) (low + 65536 * m) ≡ v + 65536 * bitAnd rest m
 step x rest low m v h hl k =
     let p : x + 65536 * rest ≡ rest * 65536 + x = omega arith in
     let q : low + 65536 * m ≡ m * 65536 + low = omega arith in
@@ -107,21 +110,9 @@ module _ (p q : ℕ) (pos : 0 < p) (e : q * p ≡ 65536) where
         ∙ and-bytes (b / p + q * (r % p)) (r / p + q * (g % p)) (g / p + q * (a % p)) (a / p) (within-lane b r hb) (within-lane r g hr) (within-lane g a hg)
         ∙ same (kept b r hb) (kept r g hr) (kept g a hg) (omega arith)
 
--- lanes of four bits, each followed by its top bit
-tops : (b r g : ℕ) → b < 16 → r < 16 → g < 16 → bitAnd (lanes b r g 0 / 8) 0x0000000100010001 ≡ lanes (b / 8) (r / 8) (g / 8) 0
-tops b r g hb hr hg =
-    ap (λ (x : ℕ). bitAnd x 0x0000000100010001) (divided 8 8192 (omega arith) refl b r g 0)
-    ∙ masked (b / 8 + 8192 * (r % 8)) (r / 8 + 8192 * (g % 8)) (g / 8 + 8192 * (0 % 8)) (0 / 8) 1 1 1 0 (b / 8) (r / 8) (g / 8) 0
-    (omega arith) (omega arith) (omega arith) (omega arith) (omega arith) (omega arith)
-    (and-mask (b / 8 + 8192 * (r % 8)) 1 ∙ omega arith) (and-mask (r / 8 + 8192 * (g % 8)) 1 ∙ omega arith)
-    (and-mask (g / 8 + 8192 * (0 % 8)) 1 ∙ omega arith) (and-zero-r (0 / 8))
-
-pub widened-is : (b r g : ℕ) → b < 16 → r < 16 → g < 16 → widened (lanes b r g 0) ≡ lanes (b * 2 + b / 8) (r * 2 + r / 8) (g * 2 + g / 8) 0
-widened-is b r g hb hr hg = omega (arith, tops b r g hb hr hg)
-
--- sums as lanes, alpha's doubled; four numbers of 8 bits as lanes
-abbrev pub sumLanes : PVRTCTexelColorInt → ℕ
-sumLanes s = lanes (s .b) (s .r) (s .g) (2 * s .a)
+-- sums as lanes, alpha's doubled; four numbers of 8 bits as lanes, blue first
+abbrev pub sumLanes : ChannelOrder → PVRTCTexelColorInt → ℕ
+sumLanes order s = channelLanes order (s .b) (s .g) (s .r) (2 * s .a)
 
 abbrev plain : PVRTCTexelColorInt → ℕ
 plain s = lanes (s .b) (s .r) (s .g) (s .a)
@@ -149,7 +140,7 @@ goes true = (omega arith, refl, refl, omega arith)
 goes false = (omega arith, refl, refl, omega arith)
 
 -- so it brings every sum to 8 bits
-fits : (two : Bool) (s : PVRTCTexelColorInt) → Low (8 * half two) s → fitted (half two) (sumLanes s) ≡ plain (toBytes (half two) s)
+fits : (two : Bool) (s : PVRTCTexelColorInt) → Low (8 * half two) s → fitted (half two) (sumLanes BlueFirst s) ≡ plain (toBytes (half two) s)
 fits two s l =
     let h = half two in
     let k = texel.bytes two s l in
@@ -168,7 +159,7 @@ fits two s l =
 times-lanes : (b r g a v : ℕ) → lanes b r g a * v ≡ lanes (b * v) (r * v) (g * v) (a * v)
 times-lanes b r g a v = rw (add-mul, mul-assoc, add-mul, mul-assoc, add-mul, mul-assoc)
 
-joined-is : (b r g a : ℕ) → b < 256 → r < 256 → g < 256 → a < 256 → joined (lanes b r g a) ≡ packed (record { r = r; g = g; b = b; a = a })
+joined-is : (b r g a : ℕ) → b < 256 → r < 256 → g < 256 → a < 256 → joined (lanes b r g a) ≡ packed BlueFirst (record { r = r; g = g; b = b; a = a })
 joined-is b r g a hb hr hg ha = omega arith
 
 bound : (x y w : ℕ) → x < 256 → y < 256 → w ≤ 8 → x * (8 - w) + y * w < 2048
@@ -214,7 +205,7 @@ blends x y w hx hy hw =
     let e = lane-is x y w hx hw in
     record { byte = texel.blend-byte x y w hw hx hy; within = λ z. omega arith; raised = λ z. omega arith; alone = omega arith }
 
-module _ (s t : PVRTCTexelColorInt) (w : ℕ) (hs : EightBits s) (ht : EightBits t) (hw : w ≤ 8) where
+module _ (s t : PVRTCTexelColorInt) (w : ℕ) (hs : EightBits (pixel s)) (ht : EightBits (pixel t)) (hw : w ≤ 8) where
   abbrev lb : ℕ
   lb = lane (s .b) (t .b) w
 
@@ -236,7 +227,7 @@ module _ (s t : PVRTCTexelColorInt) (w : ℕ) (hs : EightBits s) (ht : EightBits
       ∙ divided 8 8192 (omega arith) refl lb lr lg la
 
   -- what is kept of it is the texel's word
-  mix-is : (p : Bool) → mixedLanes (plain s) (plain t) w (cond p clear bytes) ≡ packed (blend (pixel s) (pixel t) w p)
+  mix-is : (p : Bool) → mixedLanes (plain s) (plain t) w (cond p clear bytes) ≡ packed BlueFirst (blend (pixel s) (pixel t) w p)
   mix-is p =
       let b = blends (s .b) (t .b) w (hs .b) (ht .b) hw in
       let r = blends (s .r) (t .r) w (hs .r) (ht .r) hw in
@@ -248,13 +239,26 @@ module _ (s t : PVRTCTexelColorInt) (w : ℕ) (hs : EightBits s) (ht : EightBits
       ∙ same (b .raised lr) (r .raised lg) (g .raised la) (ap (cond p 0) (a .alone)))
       ∙ joined-is _ _ _ _ (b .byte) (r .byte) (g .byte) (omega arith)
 
--- so a texel of two sums
-pub texel-lanes : (two : Bool) (s t : PVRTCTexelColorInt) (w : ℕ) (p : Bool) → Low (8 * half two) s → Low (8 * half two) t → w ≤ 8 → let h = half two in
-    texelLanes h (sumLanes s) (sumLanes t) w (cond p clear bytes) ≡ packed (blend (pixel (toBytes h s)) (pixel (toBytes h t)) w p)
+-- so a texel of two sums, blue first
+blue-first : (two : Bool) (s t : PVRTCTexelColorInt) (w : ℕ) (p : Bool) → Low (8 * half two) s → Low (8 * half two) t → w ≤ 8 → let h = half two in
+    texelLanes h (sumLanes BlueFirst s) (sumLanes BlueFirst t) w (cond p clear bytes) ≡ packed BlueFirst (blend (pixel (toBytes h s)) (pixel (toBytes h t)) w p)
 unfolding texelLanes
-texel-lanes two s t w p ls lt hw =
+blue-first two s t w p ls lt hw =
     ap₂ (λ (x y : ℕ). mixedLanes x y w (cond p clear bytes)) (fits two s ls) (fits two t lt)
     ∙ mix-is (toBytes (half two) s) (toBytes (half two) t) w (texel.bytes two s ls) (texel.bytes two t lt) hw p
+
+-- red first the same lanes are those of the sums with blue and red exchanged
+abbrev turned : PVRTCTexelColorInt → PVRTCTexelColorInt
+turned s = record { r = s .b; g = s .g; b = s .r; a = s .a }
+
+low-turned : {t : ℕ} {s : PVRTCTexelColorInt} → Low t s → Low t (turned s)
+low-turned l = record { r = l .b; g = l .g; b = l .r; a = l .a }
+
+pub texel-lanes : (order : ChannelOrder) (two : Bool) (s t : PVRTCTexelColorInt) (w : ℕ) (p : Bool) → Low (8 * half two) s → Low (8 * half two) t → w ≤ 8
+    → let h = half two in
+    texelLanes h (sumLanes order s) (sumLanes order t) w (cond p clear bytes) ≡ packed order (blend (pixel (toBytes h s)) (pixel (toBytes h t)) w p)
+texel-lanes BlueFirst two s t w p ls lt hw = blue-first two s t w p ls lt hw
+texel-lanes RedFirst two s t w p ls lt hw = blue-first two (turned s) (turned t) w p (low-turned ls) (low-turned lt) hw
 
 -- what the code's products are bounded by
 pub grown-fits : (z m : ℕ) → z ≤ 288230376151711744 → grown (bitAnd z m) < 18446744073709551616

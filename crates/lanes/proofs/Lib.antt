@@ -1,4 +1,5 @@
 pub mod ByteLanes
+pub mod Fields
 pub mod Lane
 pub mod Laying
 pub mod Linear

@@ -5,6 +5,8 @@ use Prim.Native.Nat.{ℕ, zero, suc, _+_, _*_, _/_, _%_, _-_, _≤_, _<_}
 use native.Mathlib.Nat.{mul-le-mul-left}
 use native.Mathlib.Omega.{arith}
 use Rattle.facts.specs.Sum.{sum}
+use Rattle.pixel.specs.declared.ChannelOrder.{ChannelOrder}
+use Rattle.pixel.specs.declared.ChannelOrder.the-variants.{BlueFirst, RedFirst}
 use Rattle.texel.proofs.Across as texel
 use Rattle.texel.specs.Inner.{side, sumsTo}
 use Rattle.texel.specs.Summed.{shares, three}
@@ -100,16 +102,18 @@ down-across h px py w =
     (by-three h px _ _ _ ∙ texel.down-across h px py w)
 
 -- the colour of one of nine words as lanes
-abbrev pub wordLanes : Words → (second : Bool) → ℕ → ℕ → ℕ
-wordLanes nine second i j = colorLanes (side second (nine i j))
+abbrev pub wordLanes : ChannelOrder → Words → (second : Bool) → ℕ → ℕ → ℕ
+wordLanes order nine second i j = colorLanes order (side second (nine i j))
 
-pub sums-are : (h px py : ℕ) (nine : Words) (second : Bool) → let w = wordLanes nine second in
+pub sums-are : (order : ChannelOrder) (h px py : ℕ) (nine : Words) (second : Bool) → let w = wordLanes order nine second in
     shared h px (shared 2 py (w 0 0) (w 0 1) (w 0 2)) (shared 2 py (w 1 0) (w 1 1) (w 1 2)) (shared 2 py (w 2 0) (w 2 1) (w 2 2))
-    ≡ sumLanes (sumsTo h nine second px py 9)
+    ≡ sumLanes order (sumsTo h nine second px py 9)
 unfolding sumsTo
-sums-are h px py nine second =
-    down-across h px py (wordLanes nine second)
-    ∙ sum-lanes (λ k. word k .b) (λ k. word k .r) (λ k. word k .g) (λ k. word k .a) (factor h px py) 9
+sums-are order h px py nine second = down-across h px py (wordLanes order nine second) ∙ by order
   where
     word : ℕ → PVRTCTexelColor
     word k = side second (nine (k % 3) (k / 3))
+
+    by : (order : ChannelOrder) → sum (λ k. colorLanes order (word k) * factor h px py k) 9 ≡ sumLanes order (sumsTo h nine second px py 9)
+    by BlueFirst = sum-lanes (λ k. word k .b) (λ k. word k .r) (λ k. word k .g) (λ k. word k .a) (factor h px py) 9
+    by RedFirst = sum-lanes (λ k. word k .r) (λ k. word k .b) (λ k. word k .g) (λ k. word k .a) (factor h px py) 9

@@ -11,8 +11,10 @@ use Rattle.grid.specs.Grid.{half, blockWidth, beside}
 use Rattle.paint.proofs.Sheets.{columns-fit, BlocksLaid, next-block}
 use Rattle.paint.specs.declared.Sheet.{Sheet}
 use Rattle.paint.specs.Sheet.{onSheet, columnsFrom, Fits}
+use Rattle.pixel.specs.Pixel.{packed}
+use Rattle.pixel.specs.declared.ChannelOrder.{ChannelOrder}
 use Rattle.texel.proofs.Range.{words}
-use Rattle.texel.specs.Texel.{packed, texelIn, texelAt, gridTexel}
+use Rattle.texel.specs.Texel.{texelIn, texelAt, gridTexel}
 use Rattle.lanes.specs.declared.Codes.{Codes}
 use Rattle.lanes.specs.declared.Column.{Column}
 use Rattle.lanes.specs.declared.FillRule.{FillRule}
@@ -33,8 +35,8 @@ slide {read = read} {side = side} k s = record { is = s .is ∙ ap (λ (n : ℕ)
 
 -- what is read of column x of row `by`: its three words, summed downwards, and its own word's codes, and weights
 module _ (g : Grid) (by : ℕ) (d : List ℕ) where
-  abbrev columnIn : ℕ → Column
-  columnIn x = columnOf d (placeIn g by x 0) (placeIn g by x 1) (placeIn g by x 2)
+  abbrev columnIn : ChannelOrder → ℕ → Column
+  columnIn order x = columnOf order d (placeIn g by x 0) (placeIn g by x 1) (placeIn g by x 2)
 
   abbrev codesIn : ℕ → Codes
   codesIn x = codesOf (wordAt d (placeIn g by x 1))
@@ -42,8 +44,8 @@ module _ (g : Grid) (by : ℕ) (d : List ℕ) where
   abbrev weightsIn : ℕ → Weights
   weightsIn x = weightRows (wordAt d (placeIn g by x 1))
 
-  abbrev pub SeenColumn : ℕ → ℕ → Column → Type 0
-  SeenColumn = Seen SmallColumn columnIn (g .across)
+  abbrev pub SeenColumn : ChannelOrder → ℕ → ℕ → Column → Type 0
+  SeenColumn order = Seen SmallColumn (columnIn order) (g .across)
 
   abbrev pub SeenCodes : ℕ → ℕ → Codes → Type 0
   SeenCodes = Seen (λ k. k .start ≤ 4) codesIn (g .across)
@@ -52,14 +54,14 @@ module _ (g : Grid) (by : ℕ) (d : List ℕ) where
   SeenWeights = Seen LowRows weightsIn (g .across)
 
 -- the window before block bx, as the loop keeps it, at 4bpp and at 2bpp: of the column before the block and of its own
-pub record Window4bpp (g : Grid) (by : ℕ) (d : List ℕ) (bx : ℕ) (l o : Column) (k : Codes) : Type 0 where
-  pub left : SeenColumn g by d bx 0 l
-  pub own : SeenColumn g by d bx 1 o
+pub record Window4bpp (order : ChannelOrder) (g : Grid) (by : ℕ) (d : List ℕ) (bx : ℕ) (l o : Column) (k : Codes) : Type 0 where
+  pub left : SeenColumn g by d order bx 0 l
+  pub own : SeenColumn g by d order bx 1 o
   pub codes : SeenCodes g by d bx 1 k
 
-pub record Window2bpp (g : Grid) (by : ℕ) (d : List ℕ) (row : RowAddresses) (bx : ℕ) (l o : Column) (wl wo : Weights) (q : ℕ) : Type 0 where
-  pub left : SeenColumn g by d bx 0 l
-  pub own : SeenColumn g by d bx 1 o
+pub record Window2bpp (order : ChannelOrder) (g : Grid) (by : ℕ) (d : List ℕ) (row : RowAddresses) (bx : ℕ) (l o : Column) (wl wo : Weights) (q : ℕ) : Type 0 where
+  pub left : SeenColumn g by d order bx 0 l
+  pub own : SeenColumn g by d order bx 1 o
   pub left-weights : SeenWeights g by d bx 0 wl
   pub own-weights : SeenWeights g by d bx 1 wo
   pub part : SeenPart g row bx 1 q
@@ -72,8 +74,8 @@ module _ {g : Grid} {by len bx k part : ℕ} {row : RowAddresses} (r : RowAt g b
   words-are : {A : Type 0} (f : ℕ → ℕ → ℕ → A) → three f ≡ f (placeAt g by bx k 0) (placeAt g by bx k 1) (placeAt g by bx k 2)
   words-are f = rw (word-above r p .0, word-own r p .0, word-below r p .0)
 
-  pub column-seen : {v : Column} → (v ≡ three (columnOf d)) × SmallColumn v → SeenColumn g by d bx k v
-  column-seen e = record { is = e .0 ∙ words-are (columnOf d); good = e .1 }
+  pub column-seen : (order : ChannelOrder) {v : Column} → (v ≡ three (columnOf order d)) × SmallColumn v → SeenColumn g by d order bx k v
+  column-seen order e = record { is = e .0 ∙ words-are (columnOf order d); good = e .1 }
 
   pub codes-seen : {v : Codes} → (v ≡ codesOf (wordAt d (part + row .own))) × (v .start ≤ 4) → SeenCodes g by d bx k v
   codes-seen e = record { is = e .0 ∙ words-are (λ u o e. codesOf (wordAt d o)); good = e .1 }
@@ -86,37 +88,37 @@ module _ {g : Grid} {by len bx k part : ℕ} {row : RowAddresses} (r : RowAt g b
   rule-of e = e ∙ words-are (λ u o e. fillRuleOf (wordAt d u) (wordAt d o) (wordAt d e))
 
 -- a texel of a block is a texel of the grid
-of-grid : (g : Grid) (d : List ℕ) (bx by i j : ℕ) {two : Bool} → g .is2bpp ≡ two → i < blockWidth two → j < 4
-    → packed (texelIn (half two) (words two (λ p q. wordAt d (placeAt g by bx p q))) i j)
-    ≡ gridTexel g d (bx * blockWidth two + i) (by * 4 + j)
+of-grid : (order : ChannelOrder) (g : Grid) (d : List ℕ) (bx by i j : ℕ) {two : Bool} → g .is2bpp ≡ two → i < blockWidth two → j < 4
+    → packed order (texelIn (half two) (words two (λ p q. wordAt d (placeAt g by bx p q))) i j)
+    ≡ gridTexel order g d (bx * blockWidth two + i) (by * 4 + j)
 unfolding texelAt
-of-grid g d bx by i j {two} e hi hj =
+of-grid order g d bx by i j {two} e hi hj =
     let x = split (blockWidth two) (bx * blockWidth two + i) bx i refl hi in
     let y = split 4 (by * 4 + j) by j refl hj in
     rw (e, x .0, x .1, y .0, y .1)
 
 -- the texels of the block between three columns are the grid's
-module _ (g : Grid) (by bx : ℕ) (d : List ℕ) {l o r : Column} (right : SeenColumn g by d bx 2 r) where
-  pub texels-4bpp : {k : Codes} → g .is2bpp ≡ false → Window4bpp g by d bx l o k
-      → (i j : ℕ) → i < 4 → j < 4 → inBlock4bpp l o r k i j ≡ gridTexel g d (bx * 4 + i) (by * 4 + j)
+module _ (order : ChannelOrder) (g : Grid) (by bx : ℕ) (d : List ℕ) {l o r : Column} (right : SeenColumn g by d order bx 2 r) where
+  pub texels-4bpp : {k : Codes} → g .is2bpp ≡ false → Window4bpp order g by d bx l o k
+      → (i j : ℕ) → i < 4 → j < 4 → inBlock4bpp l o r k i j ≡ gridTexel order g d (bx * 4 + i) (by * 4 + j)
   texels-4bpp e w i j hi hj =
-      rw (w .left .is, w .own .is, right .is, w .codes .is) (texel-4bpp.texel-is d (placeAt g by bx) i j hi hj ∙ of-grid g d bx by i j e hi hj)
+      rw (w .left .is, w .own .is, right .is, w .codes .is) (texel-4bpp.texel-is order d (placeAt g by bx) i j hi hj ∙ of-grid order g d bx by i j e hi hj)
 
-  pub texels-2bpp : {row : RowAddresses} {wl wo wr filled : Weights} {q : ℕ} {rule : FillRule} → g .is2bpp ≡ true → Window2bpp g by d row bx l o wl wo q
+  pub texels-2bpp : {row : RowAddresses} {wl wo wr filled : Weights} {q : ℕ} {rule : FillRule} → g .is2bpp ≡ true → Window2bpp order g by d row bx l o wl wo q
       → SeenWeights g by d bx 2 wr
       → rule ≡ fillRuleOf (wordAt d (placeAt g by bx 1 0)) (wordAt d (placeAt g by bx 1 1)) (wordAt d (placeAt g by bx 1 2))
       → filled ≡ filledRows wl wo wr rule → (i j : ℕ) → i < 8 → j < 4
-      → inBlock2bpp l o r filled i j ≡ gridTexel g d (bx * 8 + i) (by * 4 + j)
+      → inBlock2bpp l o r filled i j ≡ gridTexel order g d (bx * 8 + i) (by * 4 + j)
   texels-2bpp e w next er ef i j hi hj =
       rw (w .left .is, w .own .is, right .is, ef, w .left-weights .is, w .own-weights .is, next .is, er)
-      (texel-2bpp.texel-is d (placeAt g by bx) i j hi hj ∙ of-grid g d bx by i j e hi hj)
+      (texel-2bpp.texel-is order d (placeAt g by bx) i j hi hj ∙ of-grid order g d bx by i j e hi hj)
 
 -- the texels of the row, and that those of its first n blocks are laid on its sheet
-abbrev pub rowTexel : Grid → ℕ → List ℕ → ℕ → ℕ → ℕ
-rowTexel g by d x y = gridTexel g d x (by * 4 + y)
+abbrev pub rowTexel : ChannelOrder → Grid → ℕ → List ℕ → ℕ → ℕ → ℕ
+rowTexel order g by d x y = gridTexel order g d x (by * 4 + y)
 
-abbrev pub RowSoFar : Grid → ℕ → Sheet → (size : ℕ) → (d old : List ℕ) → ℕ → List ℕ → Type 0
-RowSoFar g by row size d old = BlocksLaid row size (rowTexel g by d) old
+abbrev pub RowSoFar : ChannelOrder → Grid → ℕ → Sheet → (size : ℕ) → (d old : List ℕ) → ℕ → List ℕ → Type 0
+RowSoFar order g by row size d old = BlocksLaid row size (rowTexel order g by d) old
 
 -- a block that starts in the row, and its part of the sheet
 module _ {g : Grid} {by len room : ℕ} {row : Sheet} (r : Ready g by row len room) (size bx : ℕ) {part : Sheet} (h : bx * size < row .width)
@@ -124,8 +126,8 @@ module _ {g : Grid} {by len room : ℕ} {row : Sheet} (r : Ready g by row len ro
   pub part-fits : Fits part room × (part .width ≤ size) × (part .height ≤ 4)
   part-fits = rw e (columns-fit (r .fits) (bx * size) size h, omega arith, r .few)
 
-  pub block-laid : (d old : List ℕ) (f : ℕ → ℕ → ℕ) {img new : List ℕ} → room ≡ length old → new ≡ onSheet part f img
-      → ((x y : ℕ) → x < size → y < 4 → f x y ≡ rowTexel g by d (bx * size + x) y)
-      → RowSoFar g by row size d old bx img → RowSoFar g by row size d old (bx + 1) new
-  block-laid d old f el en same laid =
-      next-block row size (rowTexel g by d) old (rw el at (r .fits)) bx f en h e (λ x y lx ly. same x y lx (omega (arith, r .few))) laid
+  pub block-laid : (order : ChannelOrder) (d old : List ℕ) (f : ℕ → ℕ → ℕ) {img new : List ℕ} → room ≡ length old → new ≡ onSheet part f img
+      → ((x y : ℕ) → x < size → y < 4 → f x y ≡ rowTexel order g by d (bx * size + x) y)
+      → RowSoFar order g by row size d old bx img → RowSoFar order g by row size d old (bx + 1) new
+  block-laid order d old f el en same laid =
+      next-block row size (rowTexel order g by d) old (rw el at (r .fits)) bx f en h e (λ x y lx ly. same x y lx (omega (arith, r .few))) laid

@@ -11,8 +11,10 @@ use Rattle.facts.proofs.Finite.{below}
 use Rattle.facts.proofs.Tab.{getD-tab}
 use Rattle.facts.specs.Bits.{isSet}
 use Rattle.facts.specs.Tab.{tab}
+use Rattle.pixel.specs.Pixel.{packed}
+use Rattle.pixel.specs.declared.ChannelOrder.{ChannelOrder}
 use Rattle.texel.proofs.Range.{words, filled-le}
-use Rattle.texel.specs.Texel.{Words, packed, near, filled, ruleAt, punched, texelIn}
+use Rattle.texel.specs.Texel.{Words, near, filled, ruleAt, punched, texelIn}
 use Rattle.word.proofs.Bounds.{weights-2, never-punched}
 use Rattle.word.specs.declared.Fill.the-variants.{Nothing, Around, AboveBelow, LeftRight}
 use Rattle.word.specs.Word.{modulation, mode, weight2bpp, fill2bpp, wordOf}
@@ -222,11 +224,11 @@ unfolding inRow2bpp
 row-texel s w x et ea eb = rw (← ea, ← eb) et
 
 -- a texel of the window, whatever the nine addresses are
-pub texel-is : (d : List ℕ) (z : ℕ → ℕ → ℕ) (x y : ℕ) → x < 8 → y < 4
-    → inBlock2bpp (columnAt d z 0) (columnAt d z 1) (columnAt d z 2)
+pub texel-is : (order : ChannelOrder) (d : List ℕ) (z : ℕ → ℕ → ℕ) (x y : ℕ) → x < 8 → y < 4
+    → inBlock2bpp (columnAt order d z 0) (columnAt order d z 1) (columnAt order d z 2)
     (filledRows (weightRows (wordAt d (z 0 1))) (weightRows (wordAt d (z 1 1))) (weightRows (wordAt d (z 2 1)))
     (fillRuleOf (wordAt d (z 1 0)) (wordAt d (z 1 1)) (wordAt d (z 1 2)))) x y
-    ≡ packed (texelIn 4 (words true (λ i j. wordAt d (z i j))) x y)
+    ≡ packed order (texelIn 4 (words true (λ i j. wordAt d (z i j))) x y)
 unfolding inRow2bpp
-texel-is d z x y hx hy =
-    window-texel true d z x y hx hy _ _ (weight-is (λ i j. wordAt d (z i j)) x y hx hy) (keep-is (λ i j. wordAt d (z i j)) x y)
+texel-is order d z x y hx hy =
+    window-texel order true d z x y hx hy _ _ (weight-is (λ i j. wordAt d (z i j)) x y hx hy) (keep-is (λ i j. wordAt d (z i j)) x y)

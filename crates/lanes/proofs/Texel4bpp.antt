@@ -9,7 +9,9 @@ use lib.ListN.{getD}
 use lib.Pow.{shr-shr}
 use borrow.Author.Tests.{eq-eqb, ne-eqb}
 use Rattle.facts.proofs.Finite.{below, below₂}
-use Rattle.texel.specs.Texel.{Words, packed, near, filled, ruleAt, punched, texelIn}
+use Rattle.texel.specs.Texel.{Words, near, filled, ruleAt, punched, texelIn}
+use Rattle.pixel.specs.Pixel.{packed}
+use Rattle.pixel.specs.declared.ChannelOrder.{ChannelOrder}
 use Rattle.texel.proofs.Range.{words}
 use Rattle.word.proofs.Bounds.{weights-4, punch-bit, never-filled}
 use Rattle.word.specs.declared.Fill.{Fill}
@@ -92,12 +94,12 @@ module _ (of : ℕ → ℕ → List ℕ) (x y : ℕ) (hx : x < 4) (hy : y < 4) w
       ∙ ap (λ (t : Bool). cond t clear bytes) (sym (bit-is (punch4bpp (mode own) (modulation own) i) _ (punch-bit own i (omega arith))))
 
 -- a texel of the window, whatever the nine addresses are
-pub texel-is : (d : List ℕ) (z : ℕ → ℕ → ℕ) (x y : ℕ) → x < 4 → y < 4
-    → inBlock4bpp (columnAt d z 0) (columnAt d z 1) (columnAt d z 2) (codesOf (wordAt d (z 1 1))) x y
-    ≡ packed (texelIn 2 (words false (λ i j. wordAt d (z i j))) x y)
+pub texel-is : (order : ChannelOrder) (d : List ℕ) (z : ℕ → ℕ → ℕ) (x y : ℕ) → x < 4 → y < 4
+    → inBlock4bpp (columnAt order d z 0) (columnAt order d z 1) (columnAt order d z 2) (codesOf (wordAt d (z 1 1))) x y
+    ≡ packed order (texelIn 2 (words false (λ i j. wordAt d (z i j))) x y)
 unfolding inRow4bpp
-texel-is d z x y hx hy =
-    window-texel false d z x y hx hy _ _ (weight-is (λ i j. wordAt d (z i j)) x y hx hy) (keep-is (λ i j. wordAt d (z i j)) x y hx hy)
+texel-is order d z x y hx hy =
+    window-texel order false d z x y hx hy _ _ (weight-is (λ i j. wordAt d (z i j)) x y hx hy) (keep-is (λ i j. wordAt d (z i j)) x y hx hy)
 
 -- the codes, as the code reads them
 module _ (d : List ℕ) (z : ℕ) {b0 b1 b2 b3 b4 : ℕ} where

@@ -6,6 +6,7 @@ use Rattle.grid.specs.Grid.{blockWidth, blocks, log2, address, beside}
 use Rattle.grid.specs.Words.{Stands}
 use Rattle.paint.specs.declared.Sheet.{Sheet}
 use Rattle.paint.specs.Sheet.{onSheet, Fits}
+use Rattle.pixel.specs.declared.ChannelOrder.{ChannelOrder}
 use Rattle.texel.specs.Texel.{gridTexel}
 use Rattle.lanes.specs.declared.RowAddresses.{RowAddresses}
 
@@ -36,5 +37,5 @@ pub record Ready (g : Grid) (by : ℕ) (row : Sheet) (len room : ℕ) : Type 0 w
   pub fits : Fits row room
 
 -- The row of blocks laid on its sheet.
-abbrev pub withBlockRow : Grid → ℕ → Sheet → List ℕ → List ℕ → List ℕ
-withBlockRow g by row d old = onSheet row (λ x y. gridTexel g d x (by * 4 + y)) old
+abbrev pub withBlockRow : ChannelOrder → Grid → ℕ → Sheet → List ℕ → List ℕ → List ℕ
+withBlockRow order g by row d old = onSheet row (λ x y. gridTexel order g d x (by * 4 + y)) old

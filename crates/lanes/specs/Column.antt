@@ -4,6 +4,7 @@ use mathlib.Core.List.{List}
 use Prim.Native.Nat.{ℕ, _*_, _≤_, _<_}
 use lib.ListN.{getD, drop}
 use Rattle.facts.specs.Tab.{tab}
+use Rattle.pixel.specs.declared.ChannelOrder.{ChannelOrder}
 use Rattle.word.specs.Word.{colorA, colorB, blueA, blueB, colorOf}
 use Rattle.lanes.specs.declared.Column.{Column}
 use Rattle.lanes.specs.declared.Sums.{Sums}
@@ -13,20 +14,20 @@ use Rattle.lanes.specs.Lanes.{colorLanes, shared}
 abbrev pub wordAt : List ℕ → ℕ → List ℕ
 wordAt d z = drop (8 * z) d
 
--- Colour A of word z as lanes.
-unfoldable pub lanesA : List ℕ → ℕ → ℕ
-lanesA d z = colorLanes (colorOf (colorA (wordAt d z)) (blueA (colorA (wordAt d z))))
+-- Colour A of word z as lanes, in an order of channels.
+unfoldable pub lanesA : ChannelOrder → List ℕ → ℕ → ℕ
+lanesA order d z = colorLanes order (colorOf (colorA (wordAt d z)) (blueA (colorA (wordAt d z))))
 
--- Colour B of word z as lanes.
-unfoldable pub lanesB : List ℕ → ℕ → ℕ
-lanesB d z = colorLanes (colorOf (colorB (wordAt d z)) (blueB (colorB (wordAt d z))))
+-- Colour B of word z.
+unfoldable pub lanesB : ChannelOrder → List ℕ → ℕ → ℕ
+lanesB order d z = colorLanes order (colorOf (colorB (wordAt d z)) (blueB (colorB (wordAt d z))))
 
 -- Rows 0 to 3 of a block, of the words at the addresses above it, its own and below it, by their shares.
-unfoldable pub columnOf : List ℕ → (above own below : ℕ) → Column
-columnOf d above own below =
+unfoldable pub columnOf : ChannelOrder → List ℕ → (above own below : ℕ) → Column
+columnOf order d above own below =
     record {
-      a = tab (λ y. shared 2 y (lanesA d above) (lanesA d own) (lanesA d below)) 4;
-      b = tab (λ y. shared 2 y (lanesB d above) (lanesB d own) (lanesB d below)) 4;
+      a = tab (λ y. shared 2 y (lanesA order d above) (lanesA order d own) (lanesA order d below)) 4;
+      b = tab (λ y. shared 2 y (lanesB order d above) (lanesB order d own) (lanesB order d below)) 4;
     }
 
 -- Row y of three columns.

@@ -3,20 +3,32 @@
 use mathlib.Core.Path.{_≡_}
 use Prim.Native.Nat.{ℕ, _+_, _-_, _*_, _/_, _%_, _≤_}
 use lib.Bits.{bitAnd}
+use Rattle.pixel.specs.declared.ChannelOrder.{ChannelOrder}
+use Rattle.pixel.specs.declared.ChannelOrder.the-variants.{BlueFirst, RedFirst}
 use Rattle.word.specs.declared.PVRTCTexelColor.{PVRTCTexelColor}
 use Rattle.texel.specs.Texel.{share}
 
--- Four numbers as lanes: blue, red, green, alpha, from the low end.
-abbrev pub lanes : ℕ → ℕ → ℕ → ℕ → ℕ
-lanes b r g a = b + 65536 * (r + 65536 * (g + 65536 * a))
+-- Four numbers as lanes, from the low end: those of a word's first, third, second and fourth byte.
+abbrev pub lanes : (first third second fourth : ℕ) → ℕ
+lanes first third second fourth = first + 65536 * (third + 65536 * (second + 65536 * fourth))
+
+-- Four channels as lanes, in an order.
+abbrev pub channelLanes : ChannelOrder → (b g r a : ℕ) → ℕ
+channelLanes BlueFirst b g r a = lanes b r g a
+channelLanes RedFirst b g r a = lanes r b g a
 
 -- A colour as lanes, its alpha doubled, so that one rule brings all four to 8 bits.
-abbrev pub colorLanes : PVRTCTexelColor → ℕ
-colorLanes c = lanes (c .b) (c .r) (c .g) (2 * c .a)
+abbrev pub colorLanes : ChannelOrder → PVRTCTexelColor → ℕ
+colorLanes order c = channelLanes order (c .b) (c .g) (c .r) (2 * c .a)
 
--- Three lanes of four bits, each followed by its top bit.
+-- Three fields of four bits, five bits apart, each followed by its top bit.
 abbrev pub widened : ℕ → ℕ
-widened t = 2 * t + bitAnd (t / 8) 0x0000000100010001
+widened t = 2 * t + bitAnd (t / 8) 0x0421
+
+-- By what fields of blue and red, ten bits apart, are multiplied to stand in their lanes, ten bits too high.
+abbrev pub spreadOf : ChannelOrder → ℕ
+spreadOf BlueFirst = 0x00010400
+spreadOf RedFirst = 0x04000001
 
 -- The low byte of each lane.
 abbrev pub bytes : ℕ
@@ -46,7 +58,7 @@ fitted h z = bitAnd (grown (bitAnd z (multiples h)) / (32 * h)) bytes
 abbrev pub bias : ℕ
 bias = 0x0800080008000800
 
--- Lanes of 8 bits as a word of blue, green, red and alpha.
+-- Lanes of 8 bits as a word.
 abbrev pub joined : ℕ → ℕ
 joined t = t % 4294967296 + t / 16777216
 
@@ -62,7 +74,7 @@ texelLanes h x y w keep = mixedLanes (fitted h x) (fitted h y) w keep
 unfoldable pub shared : ℕ → ℕ → ℕ → ℕ → ℕ → ℕ
 shared h p l c r = share h p 0 * l + share h p 1 * c + share h p 2 * r
 
--- What may be kept: low bytes of lanes, those of blue and red among them.
+-- What may be kept: low bytes of lanes, those of the first two among them.
 pub record Mask (k : ℕ) : Type 0 where
   pub all : k ≤ bytes
   pub low : k % 4294967296 ≡ 0x00ff00ff

@@ -1,12 +1,13 @@
 // Colours as lanes, and the three words of a column, summed downwards.
 use crate::Column;
+use pixel::ChannelOrder;
 ghost use mathlib.Core.Bool.{cond};
 ghost use mathlib.Core.Path.{_≡_};
-ghost use Prim.Native.Nat.{_+_, _*_, _<_, _≤_};
+ghost use Prim.Native.Nat.{_+_, _*_, _/_, _%_, _<_, _≤_};
 ghost use lib.Dec.{eqb};
 ghost use lib.ListN.{length, getD};
 ghost use Rattle.word.specs.Word.{colorOf, blueA, blueB};
-ghost use Rattle.lanes.specs.Lanes.{bytes, colorLanes, widened, fitted, mixedLanes, shared, Mask};
+ghost use Rattle.lanes.specs.Lanes.{bytes, channelLanes, colorLanes, widened, spreadOf, fitted, mixedLanes, shared, Mask};
 ghost use Rattle.lanes.specs.Column.{lanesA, lanesB, columnOf, most, SmallColumn};
 
 const BYTES: u64 = 0x00ff00ff00ff00ff;
@@ -40,44 +41,67 @@ pub fn mix(a: u64, b: u64, w: u64, keep: u64) -> u32
     (t % 4294967296 + t / 16777216) as u32
 }
 
-// By a bit, the one or the other, with no branch.
+// By a bit, the one or the other. Compiled it is no branch, which no one could foresee from such bits.
 pub fn pick(bit: u64, set: u64, clear: u64) -> u64
-    requires { ⌜ bit < 2 ⌝ }
     ensures { λ r. ⌜ r ≡ cond (eqb bit 1) set clear ⌝ }
 {
-    bit * set + (1 - bit) * clear
+    if bit == 1 { set } else { clear }
 }
 
-// Lanes of four bits, each followed by its top bit.
+// Fields of four bits, five bits apart, each followed by its top bit.
 fn widen(t: u64) -> u64
-    requires { ⌜ t < 68719476736 ⌝ }
-    ensures { λ r. ⌜ (r ≡ widened t) × (r < 274877906944) ⌝ }
+    requires { ⌜ t ≤ 15855 ⌝ }
+    ensures { λ r. ⌜ (r ≡ widened t) × (r < 32768) ⌝ }
 {
-    2 * t + (t / 8 & 0x0000000100010001)
+    2 * t + (t / 8 & 0x0421)
 }
 
-fn lane_a(c: u64) -> u64
-    requires { ⌜ c < 65536 ⌝ }
-    ensures { λ r. ⌜ r ≡ colorLanes (colorOf c (blueA c)) ⌝ }
+// By what blue and red are multiplied to stand in their lanes, ten bits too high.
+fn spread_of(order: ChannelOrder) -> u64
+    ensures { λ r. ⌜ r ≡ spreadOf order ⌝ }
 {
-    let x = (c / 2 % 16 * 2 + c / 16 % 2)
-        + 65536 * (c / 1024 % 32)
-        + 4294967296 * (c / 32 % 32)
-        + 8444249301319680;
-    let y = (c / 2 % 8 * 4 + c / 4 % 4)
-        + widen(65536 * (c / 256 % 16) + 4294967296 * (c / 16 % 16))
-        + 1125899906842624 * (c / 4096 % 8);
-    pick(c / 32768 % 2, x, y)
+    match order {
+        ChannelOrder::BlueFirst => 0x00010400,
+        ChannelOrder::RedFirst => 0x04000001,
+    }
 }
 
-fn lane_b(c: u64) -> u64
-    requires { ⌜ c < 65536 ⌝ }
-    ensures { λ r. ⌜ r ≡ colorLanes (colorOf c (blueB c)) ⌝ }
+// A colour's fields of five bits, blue, green and red from the low end, and its doubled alpha as lanes. The order is one factor, so neither
+// takes longer.
+fn in_lanes(fields: u64, alpha: u64, order: ChannelOrder) -> u64
+    requires { ⌜ (fields < 32768) × (alpha ≤ 30) ⌝ }
+    ensures { λ r. ⌜ r ≡ channelLanes order (fields % 32) (fields / 32 % 32) (fields / 1024) alpha ⌝ }
 {
-    let x = c % 32 + 65536 * (c / 1024 % 32) + 4294967296 * (c / 32 % 32) + 8444249301319680;
-    let y = widen(c % 16 + 65536 * (c / 256 % 16) + 4294967296 * (c / 16 % 16))
-        + 1125899906842624 * (c / 4096 % 8);
-    pick(c / 32768 % 2, x, y)
+    let apart = (fields & 0x7c1f) * spread_of(order) / 1024 & 0x001f001f;
+    apart + 4294967296 * (fields / 32 % 32) + 281474976710656 * alpha
+}
+
+// The lanes of colour A, and of B, where these are the bits c.
+fn lane_a(c: u64, order: ChannelOrder) -> u64
+    requires { ⌜ c < 65536 ⌝ }
+    ensures { λ r. ⌜ r ≡ colorLanes order (colorOf c (blueA c)) ⌝ }
+{
+    let x = c % 32768 / 2 * 2 + c / 16 % 2;
+    let y = widen(32 * (c / 16 % 16) + 1024 * (c / 256 % 16)) + (c / 2 % 8 * 4 + c / 4 % 4);
+    let opaque = c / 32768 % 2;
+    in_lanes(
+        pick(opaque, x, y),
+        pick(opaque, 30, c / 4096 % 8 * 4),
+        order,
+    )
+}
+
+fn lane_b(c: u64, order: ChannelOrder) -> u64
+    requires { ⌜ c < 65536 ⌝ }
+    ensures { λ r. ⌜ r ≡ colorLanes order (colorOf c (blueB c)) ⌝ }
+{
+    let y = widen(c % 16 + 32 * (c / 16 % 16) + 1024 * (c / 256 % 16));
+    let opaque = c / 32768 % 2;
+    in_lanes(
+        pick(opaque, c % 32768, y),
+        pick(opaque, 30, c / 4096 % 8 * 4),
+        order,
+    )
 }
 
 pub fn byte(d: &[u8], at: usize) -> u64
@@ -96,31 +120,31 @@ fn half(d: &[u8], at: usize) -> u64
 }
 
 // Colour A, and B, of word z.
-fn word_a(d: &[u8], z: usize) -> u64
+fn word_a(d: &[u8], z: usize, order: ChannelOrder) -> u64
     requires { ⌜ 8 * z + 8 ≤ length (now d) ⌝ }
-    ensures { λ r. ⌜ (r ≡ lanesA (now (d .entry)) z) × (r ≤ 8725724278030336) ⌝ }
+    ensures { λ r. ⌜ (r ≡ lanesA order (now (d .entry)) z) × (r ≤ 8725724278030336) ⌝ }
 {
-    lane_a(half(d, 8 * z + 4))
+    lane_a(half(d, 8 * z + 4), order)
 }
 
-fn word_b(d: &[u8], z: usize) -> u64
+fn word_b(d: &[u8], z: usize, order: ChannelOrder) -> u64
     requires { ⌜ 8 * z + 8 ≤ length (now d) ⌝ }
-    ensures { λ r. ⌜ (r ≡ lanesB (now (d .entry)) z) × (r ≤ 8725724278030336) ⌝ }
+    ensures { λ r. ⌜ (r ≡ lanesB order (now (d .entry)) z) × (r ≤ 8725724278030336) ⌝ }
 {
-    lane_b(half(d, 8 * z + 6))
+    lane_b(half(d, 8 * z + 6), order)
 }
 
 // The column of the words at the addresses above a block, its own and below it.
-pub fn summed(d: &[u8], above: usize, own: usize, below: usize) -> Column
+pub fn summed(d: &[u8], above: usize, own: usize, below: usize, order: ChannelOrder) -> Column
     requires { ⌜ (8 * above + 8 ≤ length (now d)) × (8 * own + 8 ≤ length (now d)) × (8 * below + 8 ≤ length (now d)) ⌝ }
-    ensures { λ k. ⌜ (k ≡ columnOf (now (d .entry)) above own below) × SmallColumn k ⌝ }
+    ensures { λ k. ⌜ (k ≡ columnOf order (now (d .entry)) above own below) × SmallColumn k ⌝ }
 {
-    let above_a = word_a(d, above);
-    let own_a = word_a(d, own);
-    let below_a = word_a(d, below);
-    let above_b = word_b(d, above);
-    let own_b = word_b(d, own);
-    let below_b = word_b(d, below);
+    let above_a = word_a(d, above, order);
+    let own_a = word_a(d, own, order);
+    let below_a = word_a(d, below, order);
+    let above_b = word_b(d, above, order);
+    let own_b = word_b(d, own, order);
+    let below_b = word_b(d, below, order);
     Column {
         a: [
             2 * above_a + 2 * own_a,

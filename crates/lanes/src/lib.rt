@@ -1,5 +1,5 @@
 // One row of blocks, decoded fast: four channels as lanes of one number, and a window of three columns of words that slides along the
-// row, each parsed once.
+// row, each parsed once. The order of channels is that of the lanes: past the reading of a colour nothing asks for it.
 mod colors;
 mod filling;
 mod places;
@@ -13,6 +13,7 @@ ghost use lib.ListN.{length};
 ghost use Rattle.lanes.specs.BlockRow.{Ready, withBlockRow};
 use grid::Grid;
 use paint::Sheet;
+use pixel::ChannelOrder;
 
 // Three words of a column, the one above a block, its own and the one below, summed for rows 0 to 3 of the block: colour A and colour B.
 pub struct Column {
@@ -60,13 +61,20 @@ pub struct FillRule {
 }
 
 // Row `by` of a grid's blocks, at either depth, laid on its sheet.
-pub fn decode_block_row(data: &[u8], g: Grid, by: usize, row: Sheet, image: &mut [u32])
+pub fn decode_block_row(
+    data: &[u8],
+    g: Grid,
+    by: usize,
+    order: ChannelOrder,
+    row: Sheet,
+    image: &mut [u32],
+)
     requires { ⌜ Ready g by row (length (now «data»)) (length (now image)) ⌝ }
-    ensures { λ _. ⌜ now (image .exit) ≡ withBlockRow g by row (now («data» .entry)) (now (image .entry)) ⌝ }
+    ensures { λ _. ⌜ now (image .exit) ≡ withBlockRow order g by row (now («data» .entry)) (now (image .entry)) ⌝ }
 {
     if g.is2bpp {
-        decode_block_row_2bpp(data, g, by, row, image);
+        decode_block_row_2bpp(data, g, by, order, row, image);
     } else {
-        decode_block_row_4bpp(data, g, by, row, image);
+        decode_block_row_4bpp(data, g, by, order, row, image);
     }
 }

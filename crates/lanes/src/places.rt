@@ -10,6 +10,7 @@ ghost use Rattle.grid.specs.Words.{wordBytes, Stands};
 ghost use Rattle.lanes.specs.Column.{columnOf, SmallColumn};
 ghost use Rattle.lanes.specs.BlockRow.{addressesOf, InColumn};
 use grid::Grid;
+use pixel::ChannelOrder;
 
 // The eight bits of b, bit i moved to bit 2i.
 fn spread_byte(b: usize) -> usize
@@ -62,9 +63,15 @@ pub fn row_addresses(g: Grid, by: usize) -> RowAddresses
 }
 
 // The three words of the column that adds `part` to an address.
-pub fn column_at(data: &[u8], row: RowAddresses, part: usize) -> Column
+pub fn column_at(data: &[u8], row: RowAddresses, part: usize, order: ChannelOrder) -> Column
     requires { ⌜ InColumn row part (length (now «data»)) ⌝ }
-    ensures { λ k. ⌜ (k ≡ columnOf (now («data» .entry)) (part + row .above) (part + row .own) (part + row .below)) × SmallColumn k ⌝ }
+    ensures { λ k. ⌜ (k ≡ columnOf order (now («data» .entry)) (part + row .above) (part + row .own) (part + row .below)) × SmallColumn k ⌝ }
 {
-    summed(data, part + row.above, part + row.own, part + row.below)
+    summed(
+        data,
+        part + row.above,
+        part + row.own,
+        part + row.below,
+        order,
+    )
 }

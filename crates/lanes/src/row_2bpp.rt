@@ -24,6 +24,7 @@ ghost use Rattle.lanes.specs.BlockRow.{Ready, withBlockRow};
 ghost use Rattle.lanes.specs.Lanes.{bytes, texelLanes};
 use grid::Grid;
 use paint::Sheet;
+use pixel::ChannelOrder;
 
 // A texel from its two sums and the weight at the low end of a row of them.
 fn texel_2bpp(a: u64, b: u64, weights: u64) -> u32
@@ -79,20 +80,27 @@ fn lay_block_2bpp(
 }
 
 // Row `by` of a grid's blocks at 2bpp, laid on its sheet: as many blocks as cover it.
-pub fn decode_block_row_2bpp(data: &[u8], g: Grid, by: usize, row: Sheet, image: &mut [u32])
+pub fn decode_block_row_2bpp(
+    data: &[u8],
+    g: Grid,
+    by: usize,
+    order: ChannelOrder,
+    row: Sheet,
+    image: &mut [u32],
+)
     requires { ⌜ Ready g by row (length (now «data»)) (length (now image)) × (g .is2bpp ≡ true) ⌝ }
-    ensures { λ _. ⌜ now (image .exit) ≡ withBlockRow g by row (now («data» .entry)) (now (image .entry)) ⌝ }
+    ensures { λ _. ⌜ now (image .exit) ≡ withBlockRow order g by row (now («data» .entry)) (now (image .entry)) ⌝ }
 {
     let addresses = row_addresses(g, by);
     let last = part_across(g.across - 1, addresses.smaller);
-    let mut left = column_at(data, addresses, last);
+    let mut left = column_at(data, addresses, last, order);
     let mut left_weights = weights_at(data, addresses, last);
     let mut part = part_across(0, addresses.smaller);
-    let mut own = column_at(data, addresses, part);
+    let mut own = column_at(data, addresses, part, order);
     let mut own_weights = weights_at(data, addresses, part);
     for bx in 0..grid::num_blocks_x(row.width, true) {
         let next = part_across(next_column(bx, g.across), addresses.smaller);
-        let right = column_at(data, addresses, next);
+        let right = column_at(data, addresses, next, order);
         let right_weights = weights_at(data, addresses, next);
         let rule = rule_at(data, addresses, part);
         let filled = fill_rows(left_weights, own_weights, right_weights, rule);

@@ -23,6 +23,7 @@ ghost use Rattle.lanes.specs.BlockRow.{InColumn, Ready, withBlockRow};
 ghost use Rattle.lanes.specs.Lanes.{texelLanes};
 use grid::Grid;
 use paint::Sheet;
+use pixel::ChannelOrder;
 
 const WEIGHTS: [u64; 8] = [0, 3, 5, 8, 0, 4, 4, 8];
 
@@ -154,21 +155,28 @@ fn codes_at(data: &[u8], row: RowAddresses, part: usize) -> Codes
 }
 
 // Row `by` of a grid's blocks at 4bpp, laid on its sheet: as many blocks as cover it.
-pub fn decode_block_row_4bpp(data: &[u8], g: Grid, by: usize, row: Sheet, image: &mut [u32])
+pub fn decode_block_row_4bpp(
+    data: &[u8],
+    g: Grid,
+    by: usize,
+    order: ChannelOrder,
+    row: Sheet,
+    image: &mut [u32],
+)
     requires { ⌜ Ready g by row (length (now «data»)) (length (now image)) × (g .is2bpp ≡ false) ⌝ }
-    ensures { λ _. ⌜ now (image .exit) ≡ withBlockRow g by row (now («data» .entry)) (now (image .entry)) ⌝ }
+    ensures { λ _. ⌜ now (image .exit) ≡ withBlockRow order g by row (now («data» .entry)) (now (image .entry)) ⌝ }
 {
     let weights = WEIGHTS;
     let keeps = KEEPS;
     let addresses = row_addresses(g, by);
     let last = part_across(g.across - 1, addresses.smaller);
-    let mut left = column_at(data, addresses, last);
+    let mut left = column_at(data, addresses, last, order);
     let first = part_across(0, addresses.smaller);
-    let mut own = column_at(data, addresses, first);
+    let mut own = column_at(data, addresses, first, order);
     let mut codes = codes_at(data, addresses, first);
     for bx in 0..grid::num_blocks_x(row.width, false) {
         let part = part_across(next_column(bx, g.across), addresses.smaller);
-        let right = column_at(data, addresses, part);
+        let right = column_at(data, addresses, part, order);
         let next = codes_at(data, addresses, part);
         let sheet = paint::columns_from(row, bx * 4, 4);
         lay_block_4bpp(&weights, &keeps, left, own, right, codes, sheet, image);

@@ -6,7 +6,8 @@ use Prim.Native.Nat.{ℕ}
 use lib.Dec.{eqb}
 use lib.ListN.{length}
 use Rattle.paint.specs.Sheet.{onSheet}
-use Rattle.pvrtc.specs.Picture.{sheetOf, pictureTexel}
+use Rattle.pixel.specs.declared.ChannelOrder.{ChannelOrder}
+use Rattle.pvrtc.specs.Picture.{inOrder, sheetOf, pictureTexel}
 use Rattle.levels.specs.declared.Decoded.{Decoded}
 use Rattle.levels.specs.declared.Described.{Described}
 use Rattle.levels.specs.declared.Described.the-variants as described
@@ -37,9 +38,10 @@ pub record Answered (n : ℕ) (level : Level) (r : Described) : Type 0 where
 abbrev pub LevelRead : List ℕ → ℕ → Described → Type 0
 LevelRead file k r = Answered (levelRefusal file k) (levelOf file k) r
 
--- Decoding it: its number, and the lent words afterwards. Where the number is 0, texel (x, y) of the level stands at word y × width + x and
+-- Decoding it in an order of channels: its number, and the lent words afterwards. Where the number is 0, texel (x, y) of the level stands at word y × width + x and
 -- later words are as they were; else all are.
-pub record LevelDecoded (file : List ℕ) (k : ℕ) (old new : List ℕ) (r : Decoded) : Type 0 where
+pub record LevelDecoded (order : ChannelOrder) (file : List ℕ) (k : ℕ) (old new : List ℕ) (r : Decoded) : Type 0 where
   pub number : decodedNumber r ≡ decodeRefusal file k (length old)
   pub words : new
-      ≡ cond (eqb (decodeRefusal file k (length old)) 0) (onSheet (sheetOf (pictureOf file k)) (pictureTexel (pictureOf file k) (levelData file k)) old) old
+      ≡ cond (eqb (decodeRefusal file k (length old)) 0)
+      (onSheet (sheetOf (pictureOf file k)) (pictureTexel (inOrder order (pictureOf file k)) (levelData file k)) old) old

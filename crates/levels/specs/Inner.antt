@@ -8,8 +8,10 @@ use lib.ListN.{length, drop}
 use Rattle.facts.specs.Checks.{Check, firstOf}
 use Rattle.paint.specs.Sheet.{onSheet}
 use Rattle.pvr.specs.Header as pvr
+use Rattle.pixel.specs.declared.ChannelOrder.{ChannelOrder}
+use Rattle.pixel.specs.declared.ChannelOrder.the-variants.{BlueFirst}
 use Rattle.pvrtc.specs.Calls.{refusal}
-use Rattle.pvrtc.specs.Picture.{picture, sheetOf, pictureTexel}
+use Rattle.pvrtc.specs.Picture.{picture, inOrder, sheetOf, pictureTexel}
 use Rattle.pvrtc.specs.Refusals.{need}
 use Rattle.pvrtc.specs.declared.Call.the-variants.{Block}
 use Rattle.pvrtc.specs.declared.Decoded.{Decoded as Called}
@@ -63,7 +65,7 @@ calledAs (called.Refused f) = decoded.Refused (why.Picture f)
 
 -- The need of a picture with these sides, in the stored grid.
 abbrev pub needOf : (width height : ℕ) → Bool → ℕ
-needOf width height two = need (picture width height two Stored)
+needOf width height two = need (picture width height two Stored BlueFirst)
 
 -- The first level.
 abbrev pub firstLevel : Levels → Level
@@ -102,11 +104,11 @@ pub record Small (level : Level) : Type 0 where
 
 -- The picture of a described level.
 abbrev pub pictureFor : Level → Picture
-pictureFor level = picture (level .width) (level .height) (level .is2bpp) Stored
+pictureFor level = picture (level .width) (level .height) (level .is2bpp) Stored BlueFirst
 
--- Decoding a described level: the block call on the bytes from its start on.
-pub record DecodedAt (file : List ℕ) (level : Level) (old new : List ℕ) (r : Decoded) : Type 0 where
+-- Decoding a described level in an order of channels: the block call on the bytes from its start on.
+pub record DecodedAt (order : ChannelOrder) (file : List ℕ) (level : Level) (old new : List ℕ) (r : Decoded) : Type 0 where
   pub number : decodedNumber r ≡ refusal (pictureFor level) (Block (length old)) (drop (level .start) file)
   pub words : new
       ≡ cond (eqb (refusal (pictureFor level) (Block (length old)) (drop (level .start) file)) 0)
-      (onSheet (sheetOf (pictureFor level)) (pictureTexel (pictureFor level) (drop (level .start) file)) old) old
+      (onSheet (sheetOf (pictureFor level)) (pictureTexel (inOrder order (pictureFor level)) (drop (level .start) file)) old) old

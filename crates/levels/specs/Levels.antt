@@ -7,6 +7,7 @@ use lib.ListN.{drop}
 use Rattle.pvr.specs.Header as pvr
 use Rattle.ktx.specs.Header as ktx
 use Rattle.ktx.specs.Header.{isKtx}
+use Rattle.pixel.specs.declared.ChannelOrder.the-variants.{BlueFirst}
 use Rattle.pvrtc.specs.Picture.{picture}
 use Rattle.pvrtc.specs.Refusals.{need}
 use Rattle.pvrtc.specs.declared.GridMode.the-variants.{Stored}
@@ -51,13 +52,13 @@ unfoldable pub halved : (k side : ℕ) → ℕ
 halved zero side = side
 halved (suc k) side = halvedOnce (halved k side)
 
--- The plate itself, which is the first level's picture. A file has the stored grid.
+-- The plate itself, which is the first level's picture. A file has the stored grid, and says no order: blue first.
 abbrev pub plateIn : Levels → Picture
-plateIn l = picture (l .width) (l .height) (l .is2bpp) Stored
+plateIn l = picture (l .width) (l .height) (l .is2bpp) Stored BlueFirst
 
 -- The picture of level k: the first sides halved k times, and the stored grid of its own sides.
 abbrev pub pictureAt : Levels → ℕ → Picture
-pictureAt l k = picture (halved k (l .width)) (halved k (l .height)) (l .is2bpp) Stored
+pictureAt l k = picture (halved k (l .width)) (halved k (l .height)) (l .is2bpp) Stored BlueFirst
 
 -- The bytes that it needs.
 abbrev pub needAt : Levels → ℕ → ℕ

@@ -12,6 +12,7 @@ ghost use Rattle.pvrtc.specs.Refusals.{largeSide, sizeChecks};
 ghost use Rattle.levels.specs.Inner.{calledAs};
 ghost use Rattle.levels.specs.Levels.{plateIn};
 ghost use Rattle.levels.specs.Refusals.{tooManyLevels, countChecks, wordChecks, numberOf, Says};
+use pixel::ChannelOrder;
 use pvrtc::GridMode;
 
 // The documents' number of a refusal.
@@ -42,7 +43,13 @@ pub fn as_called(d: pvrtc::Decoded) -> Decoded
 fn check_sides(l: Levels) -> Decoded
     ensures { λ r. ⌜ Says r (sizeChecks (plateIn l)) ⌝ }
 {
-    let p = pvrtc::picture_of(l.width, l.height, l.is2bpp, GridMode::Stored);
+    let p = pvrtc::picture_of(
+        l.width,
+        l.height,
+        l.is2bpp,
+        GridMode::Stored,
+        ChannelOrder::BlueFirst,
+    );
     as_called(pvrtc::check_sizes(p))
 }
 

@@ -9,6 +9,7 @@ ghost use mathlib.Core.Path.{_≡_};
 ghost use Rattle.levels.specs.Calls.{LevelDecoded};
 ghost use Rattle.levels.specs.Inner.{DecodedAt};
 ghost use Rattle.levels.specs.Refusals.{decodedNumber};
+use pixel::ChannelOrder;
 use pvrtc::GridMode;
 
 // The number that decoding a level says: 0 for none.
@@ -22,21 +23,28 @@ pub fn decoded_number(d: Decoded) -> u64
 }
 
 // The picture of a described level: the block call on the bytes from its start on. A level that starts past the end has none.
-fn decode_at(file: &[u8], level: Level, image: &mut [u32]) -> Decoded
-    ensures { λ r. ⌜ DecodedAt (now (file .entry)) level (now (image .entry)) (now (image .exit)) r ⌝ }
+fn decode_at(file: &[u8], level: Level, order: ChannelOrder, image: &mut [u32]) -> Decoded
+    ensures { λ r. ⌜ DecodedAt order (now (file .entry)) level (now (image .entry)) (now (image .exit)) r ⌝ }
 {
     let start = facts::least(level.start, file.len());
-    let p = pvrtc::picture_of(level.width, level.height, level.is2bpp, GridMode::Stored);
+    let p = pvrtc::picture_of(
+        level.width,
+        level.height,
+        level.is2bpp,
+        GridMode::Stored,
+        order,
+    );
     as_called(pvrtc::decode_picture(&file[start..], p, image))
 }
 
-// Level k of a file into lent words, as the block call writes it in the stored mode; or the first refusal whose condition holds.
-pub fn decode_level(file: &[u8], k: usize, image: &mut [u32]) -> Decoded
-    ensures { λ r. ⌜ LevelDecoded (now (file .entry)) k (now (image .entry)) (now (image .exit)) r ⌝ }
+// Level k of a file into lent words, as the block call writes it in the stored mode and this order of channels; or the first refusal whose
+// condition holds.
+pub fn decode_level(file: &[u8], k: usize, order: ChannelOrder, image: &mut [u32]) -> Decoded
+    ensures { λ r. ⌜ LevelDecoded order (now (file .entry)) k (now (image .entry)) (now (image .exit)) r ⌝ }
 {
     let described = read_level(file, k);
     match described {
-        Described::Level(level) => decode_at(file, level, image),
+        Described::Level(level) => decode_at(file, level, order, image),
         Described::Refused(f) => Decoded::Refused(f),
     }
 }

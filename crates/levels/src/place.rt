@@ -6,6 +6,7 @@ ghost use Prim.Native.Nat.{suc, _≤_, _<_};
 ghost use Rattle.grid.specs.Grid.{log2};
 ghost use Rattle.levels.specs.Levels.{halvedOnce, sizeWordBytes, takenBy, levelAt};
 ghost use Rattle.levels.specs.Inner.{needOf, firstLevel, nextLevel, Walks, Small};
+use pixel::ChannelOrder;
 use pvrtc::GridMode;
 
 // A side halved once: rounded down, and never below 1.
@@ -34,7 +35,14 @@ fn need_of(width: usize, height: usize, is2bpp: bool) -> usize
     requires { ⌜ (width ≤ 65536) × (height ≤ 65536) ⌝ }
     ensures { λ r. ⌜ (r ≡ needOf width height is2bpp) × (r ≤ 34359738368) ⌝ }
 {
-    grid::need_of(pvrtc::grid_of(pvrtc::picture_of(width, height, is2bpp, GridMode::Stored)))
+    let p = pvrtc::picture_of(
+        width,
+        height,
+        is2bpp,
+        GridMode::Stored,
+        ChannelOrder::BlueFirst,
+    );
+    grid::need_of(pvrtc::grid_of(p))
 }
 
 // The bytes of a size word, where there is one.

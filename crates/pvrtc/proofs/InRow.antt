@@ -14,12 +14,14 @@ use Rattle.grid.specs.declared.Grid.{Grid}
 use Rattle.grid.specs.Grid.{half, blockWidth, beside}
 use Rattle.grid.proofs.Counts.{wide}
 use Rattle.paint.proofs.Laid.{Row, row-word}
+use Rattle.pixel.specs.Pixel.{packed}
+use Rattle.pixel.specs.declared.ChannelOrder.{ChannelOrder}
 use Rattle.texel.proofs.Needed.{needed-read, slid-is, texel-of-row}
 use Rattle.texel.proofs.Shares.{half-high}
 use Rattle.texel.specs.Inner.{nineOf, Read}
 use Rattle.texel.specs.Needed.{every, rowWords, slid}
 use Rattle.texel.specs.Summed.{shares, withTexels}
-use Rattle.texel.specs.Texel.{packed, texelIn, gridTexel}
+use Rattle.texel.specs.Texel.{texelIn, gridTexel}
 use Rattle.word.specs.declared.PVRTCTexelInfo.{PVRTCTexelInfo}
 use Rattle.pvrtc.specs.declared.Call.the-variants as call
 use Rattle.pvrtc.specs.declared.Picture.{Picture}
@@ -102,27 +104,27 @@ module _ (two : Bool) (gx x : ℕ) (lb : x / blockWidth two < gx) where
       (eq-zero-or-pos x)
 
 -- what is held before column x is read: the words about the block before, and that block's texels of the row
-pub record Before (g : Grid) (d : List ℕ) (y x : ℕ) (nine : List PVRTCTexelInfo) (texels : List ℕ) : Type 0 where
+pub record Before (order : ChannelOrder) (g : Grid) (d : List ℕ) (y x : ℕ) (nine : List PVRTCTexelInfo) (texels : List ℕ) : Type 0 where
   pub words : nine ≡ rowWords g d (blockBefore (g .is2bpp) (g .across) x) (y / 4) (y % 4)
   pub known : (x % blockWidth (g .is2bpp) ≡ 0 → ⊥) → (i : ℕ) → i < blockWidth (g .is2bpp)
-      → getD texels i 0 ≡ packed (texelIn (half (g .is2bpp)) (nineOf nine) i (y % 4))
+      → getD texels i 0 ≡ packed order (texelIn (half (g .is2bpp)) (nineOf nine) i (y % 4))
   pub long : length texels ≡ 8
 
 -- and once it can be read: the words about its own block, and that block's texels
-pub record Held (g : Grid) (d : List ℕ) (y x : ℕ) (nine : List PVRTCTexelInfo) (texels : List ℕ) : Type 0 where
+pub record Held (order : ChannelOrder) (g : Grid) (d : List ℕ) (y x : ℕ) (nine : List PVRTCTexelInfo) (texels : List ℕ) : Type 0 where
   pub words : nine ≡ rowWords g d (x / blockWidth (g .is2bpp)) (y / 4) (y % 4)
-  pub known : (i : ℕ) → i < blockWidth (g .is2bpp) → getD texels i 0 ≡ packed (texelIn (half (g .is2bpp)) (nineOf nine) i (y % 4))
+  pub known : (i : ℕ) → i < blockWidth (g .is2bpp) → getD texels i 0 ≡ packed order (texelIn (half (g .is2bpp)) (nineOf nine) i (y % 4))
   pub long : length texels ≡ 8
 
-module _ (g : Grid) (d : List ℕ) (y x : ℕ) where
+module _ (order : ChannelOrder) (g : Grid) (d : List ℕ) (y x : ℕ) where
   -- before the first column
   pub held-none : {nine : List PVRTCTexelInfo} {texels : List ℕ} → nine ≡ rowWords g d (g .across - 1) (y / 4) (y % 4) → length texels ≡ 8
-      → Before g d y 0 nine texels
+      → Before order g d y 0 nine texels
   held-none e l = record { words = e; known = λ n. absurd (n (zero-mod (blockWidth (g .is2bpp)))); long = l }
 
   -- a block's first column: the words slide
   pub slides : {bx : ℕ} {nine next : List PVRTCTexelInfo} {texels : List ℕ} → x / blockWidth (g .is2bpp) < g .across → x % blockWidth (g .is2bpp) ≡ 0
-      → Before g d y x nine texels
+      → Before order g d y x nine texels
       → bx ≡ x / blockWidth (g .is2bpp) → next ≡ slid g d bx (y / 4) (y % 4) nine → next ≡ rowWords g d (x / blockWidth (g .is2bpp)) (y / 4) (y % 4)
   slides lb at b eb en =
       en ∙ rw (b .words, eb) (slid-is g d (blockBefore (g .is2bpp) (g .across) x) (x / blockWidth (g .is2bpp)) (y / 4) (y % 4)
@@ -133,22 +135,22 @@ module _ (g : Grid) (d : List ℕ) (y x : ℕ) where
 
   -- and so do the texels of its row
   pub held-first : {bx : ℕ} {nine next : List PVRTCTexelInfo} {texels after : List ℕ} → x / blockWidth (g .is2bpp) < g .across
-      → x % blockWidth (g .is2bpp) ≡ 0 → Before g d y x nine texels
+      → x % blockWidth (g .is2bpp) ≡ 0 → Before order g d y x nine texels
       → bx ≡ x / blockWidth (g .is2bpp) → next ≡ slid g d bx (y / 4) (y % 4) nine → after
-      ≡ withTexels (g .is2bpp) next 0 (y % 4) (blockWidth (g .is2bpp)) texels → Held g d y x next after
+      ≡ withTexels order (g .is2bpp) next 0 (y % 4) (blockWidth (g .is2bpp)) texels → Held order g d y x next after
   unfolding withTexels
   held-first {next = next} {texels = texels} lb at b eb en et =
       record {
         words = slides lb at b eb en;
         known = λ i l.
-            rw et (tab-front (λ i. packed (texelIn (half (g .is2bpp)) (nineOf next) (0 + i) (y % 4))) (blockWidth (g .is2bpp)) i
+            rw et (tab-front (λ i. packed order (texelIn (half (g .is2bpp)) (nineOf next) (0 + i) (y % 4))) (blockWidth (g .is2bpp)) i
             (drop (blockWidth (g .is2bpp)) texels) 0 l)
-            ∙ ap (λ (n : ℕ). packed (texelIn (half (g .is2bpp)) (nineOf next) n (y % 4))) (zero-add i);
+            ∙ ap (λ (n : ℕ). packed order (texelIn (half (g .is2bpp)) (nineOf next) n (y % 4))) (zero-add i);
         long = filled-length (record { is = et }) (omega (arith, b .long, half-high (g .is2bpp))) ∙ b .long;
       }
 
   -- any other column: they stay
-  pub held-later : {nine : List PVRTCTexelInfo} {texels : List ℕ} → (x % blockWidth (g .is2bpp) ≡ 0 → ⊥) → Before g d y x nine texels → Held g d y x nine texels
+  pub held-later : {nine : List PVRTCTexelInfo} {texels : List ℕ} → (x % blockWidth (g .is2bpp) ≡ 0 → ⊥) → Before order g d y x nine texels → Held order g d y x nine texels
   held-later n b =
       let i = in-block (g .is2bpp) x n in
       record { words = b .words ∙ ap (λ (q : ℕ). rowWords g d q (y / 4) (y % 4)) (here (i .0) ∙ i .1); known = b .known n; long = b .long }
@@ -157,19 +159,19 @@ module _ (g : Grid) (d : List ℕ) (y x : ℕ) where
       here l = rw (ne-eqb x 0 (λ e. omega arith))
 
   -- the texel
-  pub held-texel : {nine : List PVRTCTexelInfo} {texels : List ℕ} → Held g d y x nine texels → getD texels (x % blockWidth (g .is2bpp)) 0 ≡ gridTexel g d x y
+  pub held-texel : {nine : List PVRTCTexelInfo} {texels : List ℕ} → Held order g d y x nine texels → getD texels (x % blockWidth (g .is2bpp)) 0 ≡ gridTexel order g d x y
   held-texel h =
       h .known (x % blockWidth (g .is2bpp)) (mod-lt x (wide (g .is2bpp)))
-      ∙ ap (λ (n : List PVRTCTexelInfo). packed (texelIn (half (g .is2bpp)) (nineOf n) (x % blockWidth (g .is2bpp)) (y % 4))) (h .words) ∙ texel-of-row g d x y
+      ∙ ap (λ (n : List PVRTCTexelInfo). packed order (texelIn (half (g .is2bpp)) (nineOf n) (x % blockWidth (g .is2bpp)) (y % 4))) (h .words) ∙ texel-of-row order g d x y
 
   -- and on to the next column
-  pub held-next : {nine : List PVRTCTexelInfo} {texels : List ℕ} → Held g d y x nine texels → Before g d y (x + 1) nine texels
+  pub held-next : {nine : List PVRTCTexelInfo} {texels : List ℕ} → Held order g d y x nine texels → Before order g d y (x + 1) nine texels
   held-next h = record { words = h .words ∙ ap (λ (q : ℕ). rowWords g d q (y / 4) (y % 4)) on; known = λ _. h .known; long = h .long }
     where
       on : x / blockWidth (g .is2bpp) ≡ blockBefore (g .is2bpp) (g .across) (x + 1)
       on = let e : x + 1 - 1 ≡ x = omega arith in sym (rw (ne-eqb (x + 1) 0 (λ e. omega arith)) (ap (λ (n : ℕ). n / blockWidth (g .is2bpp)) e))
 
 -- and so the texel of the picture whose grid it is
-pub held-picture : (p : Picture) {g : Grid} (d : List ℕ) (y x : ℕ) {nine : List PVRTCTexelInfo} {texels : List ℕ} → g ≡ gridOf p → Held g d y x nine texels
+pub held-picture : (p : Picture) {g : Grid} (d : List ℕ) (y x : ℕ) {nine : List PVRTCTexelInfo} {texels : List ℕ} → g ≡ gridOf p → Held (p .order) g d y x nine texels
     → getD texels (x % blockWidth (p .is2bpp)) 0 ≡ pictureTexel p d x y
-held-picture p {g} d y x e h = rw e at (held-texel g d y x h)
+held-picture p {g} d y x e h = rw e at (held-texel (p .order) g d y x h)

@@ -4,5 +4,6 @@ pub mod Groups
 pub mod InPicture
 pub mod InRow
 pub mod Modes
+pub mod Orders
 pub mod Past
 pub mod Unique

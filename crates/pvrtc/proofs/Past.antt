@@ -11,7 +11,9 @@ use Rattle.grid.specs.declared.Grid.{Grid}
 use Rattle.grid.specs.Grid.{half, blockWidth}
 use Rattle.grid.specs.Words.{Stands}
 use Rattle.grid.proofs.Words.{beside-in, in-grid}
-use Rattle.texel.specs.Texel.{packed, wordsOf, gridTexel}
+use Rattle.pixel.specs.Pixel.{packed}
+use Rattle.pixel.specs.declared.ChannelOrder.{ChannelOrder}
+use Rattle.texel.specs.Texel.{wordsOf, gridTexel}
 use Rattle.texel.proofs.Same.{look-same}
 use Rattle.texel.proofs.Shares.{half-low}
 use Rattle.word.proofs.Same.{word-same}
@@ -28,10 +30,10 @@ word-past two d e n z l h k m =
     getD-drop (8 * z) (d ++ e) k 0 ∙ List·getD-append d e 0 (8 * z + k) (omega arith) ∙ sym (getD-drop (8 * z) d k 0)
 
 -- so each texel is
-pub texel-past : {g : Grid} (d e : List ℕ) → Stands g (length d) → (x y : ℕ) → gridTexel g (d ++ e) x y ≡ gridTexel g d x y
-texel-past {g} d e s x y =
+pub texel-past : (order : ChannelOrder) {g : Grid} (d e : List ℕ) → Stands g (length d) → (x y : ℕ) → gridTexel order g (d ++ e) x y ≡ gridTexel order g d x y
+texel-past order {g} d e s x y =
     let two : Bool = g .is2bpp in
-    ap packed
+    ap (packed order)
     (look-same (half two) (g .across) (g .down) x y (half-low two) (wordsOf two (g .across) (g .down) (d ++ e)) (wordsOf two (g .across) (g .down) d)
     (λ i j a b.
     let block = beside-in s (x / blockWidth two) (y / 4) i j in
@@ -48,4 +50,4 @@ module _ (p : Picture) (d e : List ℕ) (enough : need p ≤ length d) where
   -- and what it reads, where it is accepted
   pub picture-past : (c : Call) → refusal p c d ≡ 0 → (x y : ℕ) → pictureTexel p (d ++ e) x y ≡ pictureTexel p d x y
   picture-past c ok =
-      texel-past d e (stands (accepted p c (length d) ok))
+      texel-past (p .order) d e (stands (accepted p c (length d) ok))

@@ -5,14 +5,19 @@ use Prim.Native.Nat.{ℕ, max}
 use Rattle.grid.specs.declared.Grid.{Grid}
 use Rattle.grid.specs.Grid.{blockWidth, blocks}
 use Rattle.paint.specs.declared.Sheet.{Sheet}
+use Rattle.pixel.specs.declared.ChannelOrder.{ChannelOrder}
 use Rattle.texel.specs.Texel.{gridTexel}
 use Rattle.pvrtc.specs.declared.GridMode.{GridMode}
 use Rattle.pvrtc.specs.declared.GridMode.the-variants.{Rust, Stored}
 use Rattle.pvrtc.specs.declared.Picture.{Picture}
 
--- The description of a picture by its sides, its depth and its mode.
-abbrev pub picture : ℕ → ℕ → Bool → GridMode → Picture
-picture width height two mode = record { width = width; height = height; is2bpp = two; mode = mode }
+-- The description of a picture by its sides, its depth, its mode and the order of its channels.
+abbrev pub picture : ℕ → ℕ → Bool → GridMode → ChannelOrder → Picture
+picture width height two mode order = record { width = width; height = height; is2bpp = two; mode = mode; order = order }
+
+-- A picture in another order.
+abbrev pub inOrder : ChannelOrder → Picture → Picture
+inOrder order p = picture (p .width) (p .height) (p .is2bpp) (p .mode) order
 
 -- The blocks that cover a picture across, and down.
 abbrev pub across : Picture → ℕ
@@ -34,6 +39,6 @@ gridOf p = record { across = sideIn (p .mode) (across p); down = sideIn (p .mode
 abbrev pub sheetOf : Picture → Sheet
 sheetOf p = record { start = 0; stride = p .width; width = p .width; height = p .height }
 
--- Texel (x, y) of a picture, as a word.
+-- Texel (x, y) of a picture, as a word in its order.
 abbrev pub pictureTexel : Picture → List ℕ → ℕ → ℕ → ℕ
-pictureTexel p d x y = gridTexel (gridOf p) d x y
+pictureTexel p d x y = gridTexel (p .order) (gridOf p) d x y

@@ -10,6 +10,7 @@ use crate::layout::sheet_of;
 ghost use mathlib.Core.Bool.{true, false};
 ghost use Rattle.pvrtc.specs.Calls.{BlockDecoded};
 ghost use Rattle.pvrtc.specs.Picture.{picture};
+use pixel::ChannelOrder;
 
 // All texels of a picture into lent words: the rows of blocks that cover its sheet, each in lanes.
 pub fn decode_picture(data: &[u8], p: Picture, image: &mut [u32]) -> Decoded
@@ -21,13 +22,14 @@ pub fn decode_picture(data: &[u8], p: Picture, image: &mut [u32]) -> Decoded
     };
     let g = grid_of(p);
     let s = sheet_of(p);
+    let order = p.order;
     for by in 0..grid::num_blocks_y(s.height) {
-        lanes::decode_block_row(data, g, by, paint::rows_from(s, by * 4, 4), image);
+        lanes::decode_block_row(data, g, by, order, paint::rows_from(s, by * 4, 4), image);
     }
     Decoded::Done
 }
 
-// The same by the Rust's names and parameters, and the mode.
+// The same by the Rust's names and parameters, with the mode and the order.
 pub fn decode_pvrtc(
     data: &[u8],
     width: usize,
@@ -35,10 +37,11 @@ pub fn decode_pvrtc(
     image: &mut [u32],
     is2bpp: bool,
     mode: GridMode,
+    order: ChannelOrder,
 ) -> Decoded
-    ensures { λ r. ⌜ BlockDecoded (picture width height is2bpp mode) (now («data» .entry)) (now (image .entry)) (now (image .exit)) r ⌝ }
+    ensures { λ r. ⌜ BlockDecoded (picture width height is2bpp mode order) (now («data» .entry)) (now (image .entry)) (now (image .exit)) r ⌝ }
 {
-    decode_picture(data, picture_of(width, height, is2bpp, mode), image)
+    decode_picture(data, picture_of(width, height, is2bpp, mode, order), image)
 }
 
 pub fn decode_pvrtc_2bpp(
@@ -47,10 +50,11 @@ pub fn decode_pvrtc_2bpp(
     height: usize,
     image: &mut [u32],
     mode: GridMode,
+    order: ChannelOrder,
 ) -> Decoded
-    ensures { λ r. ⌜ BlockDecoded (picture width height true mode) (now («data» .entry)) (now (image .entry)) (now (image .exit)) r ⌝ }
+    ensures { λ r. ⌜ BlockDecoded (picture width height true mode order) (now («data» .entry)) (now (image .entry)) (now (image .exit)) r ⌝ }
 {
-    decode_pvrtc(data, width, height, image, true, mode)
+    decode_pvrtc(data, width, height, image, true, mode, order)
 }
 
 pub fn decode_pvrtc_4bpp(
@@ -59,8 +63,9 @@ pub fn decode_pvrtc_4bpp(
     height: usize,
     image: &mut [u32],
     mode: GridMode,
+    order: ChannelOrder,
 ) -> Decoded
-    ensures { λ r. ⌜ BlockDecoded (picture width height false mode) (now («data» .entry)) (now (image .entry)) (now (image .exit)) r ⌝ }
+    ensures { λ r. ⌜ BlockDecoded (picture width height false mode order) (now («data» .entry)) (now (image .entry)) (now (image .exit)) r ⌝ }
 {
-    decode_pvrtc(data, width, height, image, false, mode)
+    decode_pvrtc(data, width, height, image, false, mode, order)
 }

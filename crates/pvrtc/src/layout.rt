@@ -5,16 +5,24 @@ ghost use mathlib.Core.Path.{_≡_};
 ghost use Rattle.pvrtc.specs.Picture.{picture, sideIn, gridOf, sheetOf};
 use grid::Grid;
 use paint::Sheet;
+use pixel::ChannelOrder;
 
-// The description of a picture as the Rust takes it, and the mode.
-pub fn picture_of(width: usize, height: usize, is2bpp: bool, mode: GridMode) -> Picture
-    ensures { λ r. ⌜ r ≡ picture width height is2bpp mode ⌝ }
+// The description of a picture as the Rust takes it, with the mode and the order.
+pub fn picture_of(
+    width: usize,
+    height: usize,
+    is2bpp: bool,
+    mode: GridMode,
+    order: ChannelOrder,
+) -> Picture
+    ensures { λ r. ⌜ r ≡ picture width height is2bpp mode order ⌝ }
 {
     Picture {
         width: width,
         height: height,
         is2bpp: is2bpp,
         mode: mode,
+        order: order,
     }
 }
 

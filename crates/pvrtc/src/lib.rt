@@ -15,6 +15,7 @@ pub use check::has_zero_side;
 pub use check::refusal_number;
 pub use layout::grid_of;
 pub use layout::picture_of;
+use pixel::ChannelOrder;
 pub use plain::decode_pvrtc_plain;
 pub use row_call::decode_row;
 pub use texel_call::decode_texel;
@@ -54,6 +55,7 @@ pub struct Picture {
     pub height: usize,
     pub is2bpp: bool,
     pub mode: GridMode,
+    pub order: ChannelOrder,
 }
 
 // Which call is made, with what it asks for: a texel; a row of lent words; all blocks into lent words.

@@ -1,11 +1,12 @@
-// Prints what the KTX calls answer and what `plate` writes for some four hundred files, each a plain one with something changed. What it
-// must print, in the file `stdout`, was written by tools/replay_ktx. It is one module, since what a function prints is nothing that it
-// could promise.
+// Prints what the KTX calls answer and what `plate` writes for some four hundred files, each a plain one with something changed; and in a line
+// of its own, what decoding the file red first answers. What it must print, in the file `stdout`, was written by tools/replay_ktx. It is one
+// module, since what a function prints is nothing that it could promise.
 mod tables;
 
 ghost use lib.ListN.{length};
 ghost use Rattle.convert.specs.Output.{Room};
 use ktx::Header;
+use pixel::ChannelOrder;
 
 // What is chosen of a file, where it ends, and how many words are lent for its picture.
 struct Case {
@@ -320,9 +321,13 @@ fn lay(bytes: &mut [u8], c: Case) {
 // What the calls answer for the first `end` bytes of a file, and so many words.
 fn print_answers(bytes: &[u8], end: usize, room: usize) {
     print_header(bytes, end);
-    print_decoded(bytes, end, room);
+    io::write_all(1, b"; picture");
+    print_decoded(bytes, end, room, ChannelOrder::BlueFirst);
     io::write_all(1, b"; program ");
     print_converted(bytes, end);
+    io::write_all(1, b"  red first: picture");
+    print_decoded(bytes, end, room, ChannelOrder::RedFirst);
+    io::write_all(1, b"\n");
 }
 
 // What the header's reader answers.
@@ -359,21 +364,21 @@ fn print_sides(width: usize, height: usize, is2bpp: bool) {
 }
 
 // What decoding into so many words answers, of at most 131,072.
-fn print_decoded(bytes: &[u8], end: usize, room: usize) {
+fn print_decoded(bytes: &[u8], end: usize, room: usize, order: ChannelOrder) {
     let mut image = [0u32; 131072];
-    print_room(bytes, end, room, &mut image);
+    print_room(bytes, end, room, order, &mut image);
 }
 
-fn print_room(bytes: &[u8], end: usize, room: usize, image: &mut [u32]) {
+fn print_room(bytes: &[u8], end: usize, room: usize, order: ChannelOrder, image: &mut [u32]) {
     let n = facts::least(end, bytes.len());
     let m = facts::least(room, image.len());
-    print_lent(&bytes[..n], &mut image[..m]);
+    print_lent(&bytes[..n], order, &mut image[..m]);
 }
 
 // The number of the refusal, 0 for none, and the sum over the lent words afterwards, which were 0.
-fn print_lent(file: &[u8], words: &mut [u32]) {
-    let decoded = ktx::decode_ktx(file, words);
-    print_name(b"; picture", ktx::decoded_number(decoded));
+fn print_lent(file: &[u8], order: ChannelOrder, words: &mut [u32]) {
+    let decoded = ktx::decode_ktx(file, order, words);
+    print_name(b"", ktx::decoded_number(decoded));
     print_name(b", sum", samples::sum_of_words(words));
 }
 

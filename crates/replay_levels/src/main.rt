@@ -1,10 +1,12 @@
-// Prints what the calls of a level answer for some hundred files of both kinds, each level by itself. What it must print, in the file `stdout`,
-// was written by tools/replay_levels. It is one module, since what a function prints is nothing that it could promise.
+// Prints what the calls of a level answer for some hundred files of both kinds, each level by itself; and in a line of its own, what decoding
+// the level red first answers. What it must print, in the file `stdout`, was written by tools/replay_levels. It is one module, since what a
+// function prints is nothing that it could promise.
 mod tables;
 
 use ktx::Header;
 use levels::Described;
 use levels::Level;
+use pixel::ChannelOrder;
 
 // What is chosen of a file: its kind and depth, the sides, how many levels the header says, how many bytes are skipped before them, and in a
 // KTX file the level whose size word is another, and that word.
@@ -109,14 +111,21 @@ fn level_of(place: u32) -> usize {
     }
 }
 
-// A level of a whole file, and where it has one, at its edges.
 fn print_level(c: Case, k: usize, bytes: &[u8]) {
     print_case(c);
     print_name(b", level", k as u64);
-    print_answers(bytes, 6000, k, 6000);
+    print_described(bytes, 6000, k);
+    print_decoded(bytes, k, ChannelOrder::BlueFirst);
+    io::write_all(1, b"  red first");
+    print_decoded(bytes, k, ChannelOrder::RedFirst);
+}
+
+// A level of a whole file, and where it has one, at its edges.
+fn print_decoded(bytes: &[u8], k: usize, order: ChannelOrder) {
+    print_tried(bytes, 6000, k, 6000, order);
     let described = levels::read_level(bytes, k);
     if let Described::Level(level) = described {
-        print_edges(bytes, k, level);
+        print_edges(bytes, k, level, order);
     }
     io::write_all(1, b"\n");
 }
@@ -153,16 +162,16 @@ fn print_depth(is2bpp: bool) {
 
 // A level with its bytes and words and no more, with a word less, with a byte less, and cut behind, in and before its size word. No level
 // reaches as far as these bounds.
-fn print_edges(bytes: &[u8], k: usize, level: Level) {
+fn print_edges(bytes: &[u8], k: usize, level: Level, order: ChannelOrder) {
     let start = facts::least(level.start, 1000000000000);
     let end = start + facts::least(level.need, 1000000000000);
     let room = product(level.width, level.height);
-    print_tried(bytes, end, k, room);
-    print_tried(bytes, end, k, less(room, 1));
-    print_tried(bytes, less(end, 1), k, room);
-    print_tried(bytes, start, k, room);
-    print_tried(bytes, less(start, 2), k, room);
-    print_tried(bytes, less(start, 4), k, room);
+    print_tried(bytes, end, k, room, order);
+    print_tried(bytes, end, k, less(room, 1), order);
+    print_tried(bytes, less(end, 1), k, room, order);
+    print_tried(bytes, start, k, room, order);
+    print_tried(bytes, less(start, 2), k, room, order);
+    print_tried(bytes, less(start, 4), k, room, order);
 }
 
 // The product of two numbers, of each at most 65,536.
@@ -206,8 +215,10 @@ fn print_two(ktx: bool, first: u64, second: u64, bytes: &mut [u8]) {
     print_name(b" and", second);
     let k = if first == 20 && second == 19 { 33 } else { 1 };
     let room = if either(first, second, 4) { 0 } else { 6000 };
-    print_answers(bytes, end_with(first, second, c), k, room);
+    let end = end_with(first, second, c);
+    print_answers(bytes, end, k, room);
     io::write_all(1, b"\n");
+    print_red_first(bytes, end, k, room);
 }
 
 // A plate of 8 by 64 texels at 4bpp, with what two refusals are given for, as far as it is chosen. With 2 the rows are 65,600, of which level 1
@@ -317,6 +328,7 @@ fn print_calls(row: [u32; 8], ktx: bool, bytes: &mut [u8]) {
     print_answers(bytes, end, 0, 6000);
     print_header(bytes, end);
     print_program(bytes, end);
+    print_red_first(bytes, end, 0, 6000);
 }
 
 // Lays a file, its levels' data by the rule of sample files.
@@ -400,7 +412,14 @@ fn half(side: usize) -> usize {
 // What describing and decoding a level answer for the first `end` bytes of a file, and so many words.
 fn print_answers(bytes: &[u8], end: usize, k: usize, room: usize) {
     print_described(bytes, end, k);
-    print_tried(bytes, end, k, room);
+    print_tried(bytes, end, k, room, ChannelOrder::BlueFirst);
+}
+
+// A line of what decoding it red first answers.
+fn print_red_first(bytes: &[u8], end: usize, k: usize, room: usize) {
+    io::write_all(1, b"  red first");
+    print_tried(bytes, end, k, room, ChannelOrder::RedFirst);
+    io::write_all(1, b"\n");
 }
 
 fn print_described(bytes: &[u8], end: usize, k: usize) {
@@ -422,19 +441,19 @@ fn print_description(level: Level) {
 }
 
 // At most as many bytes and words as there are.
-fn print_tried(bytes: &[u8], end: usize, k: usize, room: usize) {
+fn print_tried(bytes: &[u8], end: usize, k: usize, room: usize, order: ChannelOrder) {
     let mut image = [0u32; 6000];
     let n = facts::least(end, bytes.len());
     let m = facts::least(room, 6000);
     print_name(b"; end", n as u64);
     print_name(b", room", m as u64);
-    print_lent(&bytes[..n], k, &mut image[..m]);
+    print_lent(&bytes[..n], k, order, &mut image[..m]);
 }
 
 // The numbers of both calls' refusals, 0 for none, and the sum over the lent words afterwards, which were 0.
-fn print_lent(file: &[u8], k: usize, words: &mut [u32]) {
+fn print_lent(file: &[u8], k: usize, order: ChannelOrder, words: &mut [u32]) {
     print_name(b":", described_number(levels::read_level(file, k)));
-    let decoded = levels::decode_level(file, k, words);
+    let decoded = levels::decode_level(file, k, order, words);
     print_name(b"", levels::decoded_number(decoded));
     print_name(b", sum", samples::sum_of_words(words));
 }

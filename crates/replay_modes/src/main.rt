@@ -1,8 +1,9 @@
-// Prints what the calls answer in both modes of a picture's grid: every size of 1 to 20 by 1 to 20 texels, each way to its words; the red corner; and
-// calls on both sides of what each grid needs. What it must print, in the file `stdout`, was written by tools/replay_modes, and the Rust wrote
-// the same. It is one module, since what a function prints is nothing that it could promise.
+// Prints what the calls answer in both modes of a picture's grid, each blue first and then red first: every size of 1 to 20 by 1 to 20 texels, each way
+// to its words; the red corner; one colour; and calls on both sides of what each grid needs. What it must print, in the file `stdout`, was written by
+// tools/replay_modes, and the Rust wrote the same. It is one module, since what a function prints is nothing that it could promise.
 mod tables;
 
+use pixel::ChannelOrder;
 use pvrtc::Decoded;
 use pvrtc::GridMode;
 use pvrtc::Picture;
@@ -28,8 +29,12 @@ struct Answer {
 fn main() {
     let reached = print_sizes(false, 1);
     print_sizes(true, reached);
-    print_red_corner(GridMode::Rust);
-    print_red_corner(GridMode::Stored);
+    print_red_corner(GridMode::Rust, ChannelOrder::BlueFirst);
+    print_red_corner(GridMode::Rust, ChannelOrder::RedFirst);
+    print_red_corner(GridMode::Stored, ChannelOrder::BlueFirst);
+    print_red_corner(GridMode::Stored, ChannelOrder::RedFirst);
+    print_one_colour(false);
+    print_one_colour(true);
     print_calls();
 }
 
@@ -42,15 +47,28 @@ fn print_sizes(is2bpp: bool, state: u64) -> u64 {
     reached
 }
 
-// One size in both modes, on the same data and words: the same picture has the same sum.
+// One size in both modes, on the same data and words: the same picture in the same order has the same sum.
 fn print_size(width: usize, height: usize, is2bpp: bool, state: u64) -> u64 {
     let mut data = [0u8; 200];
     let reached = samples::draw_bytes(&mut data, state);
-    let rust = pvrtc::picture_of(width, height, is2bpp, GridMode::Rust);
-    let stored = pvrtc::picture_of(width, height, is2bpp, GridMode::Stored);
+    let rust = blue_first(width, height, is2bpp, GridMode::Rust);
+    let stored = blue_first(width, height, is2bpp, GridMode::Stored);
     print_picture(rust, &data, reached);
+    print_picture(red_first(rust), &data, reached);
     print_picture(stored, &data, reached);
+    print_picture(red_first(stored), &data, reached);
     reached
+}
+
+// A picture in the Rust's order.
+fn blue_first(width: usize, height: usize, is2bpp: bool, mode: GridMode) -> Picture {
+    pvrtc::picture_of(width, height, is2bpp, mode, ChannelOrder::BlueFirst)
+}
+
+// The same picture in the other order.
+fn red_first(p: Picture) -> Picture {
+    let mode = p.mode;
+    pvrtc::picture_of(p.width, p.height, p.is2bpp, mode, ChannelOrder::RedFirst)
 }
 
 // A picture each way, with as many bytes as it needs; then with a byte less.
@@ -82,22 +100,53 @@ fn less_one(n: usize) -> usize {
 }
 
 // The reds of the first row of the red corner.
-fn print_red_corner(mode: GridMode) {
+fn print_red_corner(mode: GridMode, order: ChannelOrder) {
     let mut data = [0u8; 32];
     let mut words = [0u32; 16];
     samples::lay_file(&tables::RED_CORNER, &mut data);
-    pvrtc::decode_pvrtc_4bpp(&data, 4, 4, &mut words, mode);
+    pvrtc::decode_pvrtc_4bpp(&data, 4, 4, &mut words, mode, order);
     io::write_all(1, b"red corner, ");
     print_mode(mode);
-    print_part(b":", red_of(words[0]));
-    print_part(b"", red_of(words[1]));
-    print_part(b"", red_of(words[2]));
-    print_part(b"", red_of(words[3]));
+    print_order(order);
+    print_part(b":", red_of(words[0], order));
+    print_part(b"", red_of(words[1], order));
+    print_part(b"", red_of(words[2], order));
+    print_part(b"", red_of(words[3], order));
     io::write_all(1, b"\n");
 }
 
-fn red_of(word: u32) -> u64 {
-    word as u64 / 65536 % 256
+fn red_of(word: u32, order: ChannelOrder) -> u64 {
+    match order {
+        ChannelOrder::BlueFirst => byte_of(word, 2),
+        ChannelOrder::RedFirst => byte_of(word, 0),
+    }
+}
+
+// Byte `place` of a word, of four from the low one.
+fn byte_of(word: u32, place: u32) -> u64 {
+    (word >> (8 * (place % 4))) as u64 % 256
+}
+
+// The texel of one colour in each order.
+fn print_one_colour(is2bpp: bool) {
+    let p = blue_first(1, 1, is2bpp, GridMode::Rust);
+    print_bytes(p);
+    print_bytes(red_first(p));
+}
+
+// The texel of one colour, byte by byte from the low one.
+fn print_bytes(p: Picture) {
+    let mut data = [0u8; 8];
+    let mut words = [0u32; 1];
+    samples::lay_file(&tables::ONE_COLOUR, &mut data);
+    decode(Way::Told, p, &data, &mut words);
+    io::write_all(1, b"one colour, ");
+    print_name(p, 8);
+    print_part(b":", byte_of(words[0], 0));
+    print_part(b"", byte_of(words[0], 1));
+    print_part(b"", byte_of(words[0], 2));
+    print_part(b"", byte_of(words[0], 3));
+    io::write_all(1, b"\n");
 }
 
 // The listed calls. All get the same bytes and words, as far as they reach.
@@ -143,9 +192,15 @@ fn print_four(c: [usize; 6], data: &[u8]) {
     print_call(c, true, GridMode::Stored, data);
 }
 
-// The picture by the block call and by its other forms; then a row, and a texel of it.
+// A listed call in each order.
 fn print_call(c: [usize; 6], is2bpp: bool, mode: GridMode, data: &[u8]) {
-    let p = pvrtc::picture_of(c[2], c[3], is2bpp, mode);
+    let p = blue_first(c[2], c[3], is2bpp, mode);
+    print_answers(c, p, data);
+    print_answers(c, red_first(p), data);
+}
+
+// The picture by the block call and by its other forms; then a row, and a texel of it.
+fn print_answers(c: [usize; 6], p: Picture, data: &[u8]) {
     let bytes = c[0];
     let words = c[1];
     let y = c[5];
@@ -181,9 +236,8 @@ fn answer_in(way: Way, p: Picture, data: &[u8], words: &mut [u32], state: u64) -
 
 // Goes the way. The answer is the refusal's number, as in all of these.
 fn decode(way: Way, p: Picture, data: &[u8], words: &mut [u32]) -> u64 {
-    let mode = p.mode;
     match way {
-        Way::Told => number_of(pvrtc::decode_pvrtc(data, p.width, p.height, words, p.is2bpp, mode)),
+        Way::Told => number_of(decode_told(p, data, words)),
         Way::Named => number_of(decode_named(p, data, words)),
         Way::Plain => number_of(pvrtc::decode_pvrtc_plain(data, p, words)),
         Way::Rows => decode_rows(false, p, data, words),
@@ -192,12 +246,19 @@ fn decode(way: Way, p: Picture, data: &[u8], words: &mut [u32]) -> u64 {
     }
 }
 
+fn decode_told(p: Picture, data: &[u8], words: &mut [u32]) -> Decoded {
+    let mode = p.mode;
+    let order = p.order;
+    pvrtc::decode_pvrtc(data, p.width, p.height, words, p.is2bpp, mode, order)
+}
+
 fn decode_named(p: Picture, data: &[u8], words: &mut [u32]) -> Decoded {
     let mode = p.mode;
+    let order = p.order;
     if p.is2bpp {
-        pvrtc::decode_pvrtc_2bpp(data, p.width, p.height, words, mode)
+        pvrtc::decode_pvrtc_2bpp(data, p.width, p.height, words, mode, order)
     } else {
-        pvrtc::decode_pvrtc_4bpp(data, p.width, p.height, words, mode)
+        pvrtc::decode_pvrtc_4bpp(data, p.width, p.height, words, mode, order)
     }
 }
 
@@ -256,9 +317,10 @@ fn number_of(decoded: Decoded) -> u64 {
     }
 }
 
-// The depth, the mode, the size and how many bytes are lent.
+// The depth, the mode, the size, the order and how many bytes are lent.
 fn print_name(p: Picture, bytes: usize) {
     let mode = p.mode;
+    let order = p.order;
     if p.is2bpp {
         io::write_all(1, b"2bpp ");
     } else {
@@ -267,6 +329,7 @@ fn print_name(p: Picture, bytes: usize) {
     print_mode(mode);
     print_part(b"", p.width as u64);
     print_part(b" x", p.height as u64);
+    print_order(order);
     print_part(b", bytes", bytes as u64);
 }
 
@@ -277,6 +340,16 @@ fn print_mode(mode: GridMode) {
         }
         GridMode::Stored => {
             io::write_all(1, b"stored");
+        }
+    }
+}
+
+// Only red first is said.
+fn print_order(order: ChannelOrder) {
+    match order {
+        ChannelOrder::BlueFirst => {}
+        ChannelOrder::RedFirst => {
+            io::write_all(1, b", red first");
         }
     }
 }

@@ -4,6 +4,10 @@
 // in the other three, and B is black.
 pub const RED_CORNER: [u32; 8] = [0, 0x8000fc00, 0, 0x80008000, 0, 0x80008000, 0, 0x80008000];
 
+// One colour: the data of a plate of one block, four bytes to a number. All weights are 0; colour A is translucent, and each of its channels differs
+// from the others: blue is 33, green 66, red 140 and alpha 238.
+pub const ONE_COLOUR: [u32; 2] = [0, 0x80007842];
+
 // Calls for the last row and texel of a picture: how many bytes, the width and the height, with marks between them. A row is one number: a function that
 // lends many small arrays takes long to prove.
 pub const NEEDS: [u64; 51] = [

@@ -1,9 +1,10 @@
 // Prints what the calls that write into lent words answer, with a sum over every lent word afterwards: pictures of many shapes, all rows
-// of some, and calls on both sides of each refusal. What it must print, in the file `stdout`, was written by the Rust. What prints is one
-// module, since what a function prints is nothing that it could promise.
+// of some, and calls on both sides of each refusal; each blue first and then red first. What it must print, in the file `stdout`, was
+// written by the Rust. What prints is one module, since what a function prints is nothing that it could promise.
 mod sizes;
 mod tables;
 
+use pixel::ChannelOrder;
 use pvrtc::Decoded;
 use pvrtc::GridMode;
 use pvrtc::Picture;
@@ -84,7 +85,24 @@ fn print_drawn(way: Way, size: [u16; 2], is2bpp: bool, state: u64) -> u64 {
 
 // A picture of a size.
 fn picture_of(size: [u16; 2], is2bpp: bool) -> Picture {
-    pvrtc::picture_of(size[0] as usize, size[1] as usize, is2bpp, GridMode::Rust)
+    blue_first(size[0] as usize, size[1] as usize, is2bpp)
+}
+
+// A picture in the Rust's mode, and in its order.
+fn blue_first(width: usize, height: usize, is2bpp: bool) -> Picture {
+    pvrtc::picture_of(
+        width,
+        height,
+        is2bpp,
+        GridMode::Rust,
+        ChannelOrder::BlueFirst,
+    )
+}
+
+// The same picture in the other order.
+fn red_first(p: Picture) -> Picture {
+    let mode = p.mode;
+    pvrtc::picture_of(p.width, p.height, p.is2bpp, mode, ChannelOrder::RedFirst)
 }
 
 // All rows of pictures of the listed sizes.
@@ -148,7 +166,7 @@ fn print_one_way(data: &[u8], is2bpp: bool) {
 
 // One picture call on so many bytes and words, by the fast form and by the plain one.
 fn print_both(data: &[u8], bytes: usize, words: usize, width: usize, height: usize, is2bpp: bool) {
-    let p = pvrtc::picture_of(width, height, is2bpp, GridMode::Rust);
+    let p = blue_first(width, height, is2bpp);
     print_call(Way::Told, p, data, bytes, words, 2);
     print_call(Way::Plain, p, data, bytes, words, 2);
 }
@@ -157,7 +175,7 @@ fn print_both(data: &[u8], bytes: usize, words: usize, width: usize, height: usi
 fn print_row_calls(calls: &[[usize; 6]], data: &[u8], is2bpp: bool) {
     for i in 0..calls.len() {
         let c = calls[i];
-        let p = pvrtc::picture_of(width_of(c[2], c[3], is2bpp), c[4], is2bpp, GridMode::Rust);
+        let p = blue_first(width_of(c[2], c[3], is2bpp), c[4], is2bpp);
         print_call(Way::Row(c[5]), p, data, c[0], c[1], 2);
     }
 }
@@ -167,7 +185,7 @@ fn width_of(at4bpp: usize, at2bpp: usize, is2bpp: bool) -> usize {
     if is2bpp { at2bpp } else { at4bpp }
 }
 
-// One call, and its line. It lends the first so many bytes of the data, and so many drawn words, of at most 8,256.
+// One call, and its lines. It lends the first so many bytes of the data, and so many drawn words, of at most 8,256.
 fn print_call(way: Way, p: Picture, data: &[u8], bytes: usize, words: usize, state: u64) -> u64 {
     let mut image = [0u32; 8256];
     let n = facts::least(bytes, data.len());
@@ -175,11 +193,18 @@ fn print_call(way: Way, p: Picture, data: &[u8], bytes: usize, words: usize, sta
     print_lent(way, p, &data[..n], &mut image[..m], state)
 }
 
-// The call, its answer, and the sum over the lent words afterwards.
+// The call blue first, and then red first on the same words as they were before.
 fn print_lent(way: Way, p: Picture, data: &[u8], words: &mut [u32], state: u64) -> u64 {
+    print_line(way, p, data, words, state);
+    print_line(way, red_first(p), data, words, state)
+}
+
+// The call, its answer, and the sum over the lent words afterwards.
+fn print_line(way: Way, p: Picture, data: &[u8], words: &mut [u32], state: u64) -> u64 {
     let reached = samples::draw_words(words, state);
     print_way(way);
     print_size(p);
+    print_order(p);
     print_lengths(data.len(), words.len());
     print_number(number_of(decode(way, p, data, words)));
     io::write_all(1, b", sum");
@@ -191,19 +216,28 @@ fn print_lent(way: Way, p: Picture, data: &[u8], words: &mut [u32], state: u64) 
 // Makes the call.
 fn decode(way: Way, p: Picture, data: &[u8], words: &mut [u32]) -> Decoded {
     match way {
-        Way::Told => pvrtc::decode_pvrtc(data, p.width, p.height, words, p.is2bpp, GridMode::Rust),
+        Way::Told => decode_told(p, data, words),
         Way::Named => decode_named(p, data, words),
         Way::Plain => pvrtc::decode_pvrtc_plain(data, p, words),
         Way::Row(y) => pvrtc::decode_row(data, p, y, words),
     }
 }
 
+// Makes the call that is told the depth.
+fn decode_told(p: Picture, data: &[u8], words: &mut [u32]) -> Decoded {
+    let mode = p.mode;
+    let order = p.order;
+    pvrtc::decode_pvrtc(data, p.width, p.height, words, p.is2bpp, mode, order)
+}
+
 // Makes the call that has the depth in its name.
 fn decode_named(p: Picture, data: &[u8], words: &mut [u32]) -> Decoded {
+    let mode = p.mode;
+    let order = p.order;
     if p.is2bpp {
-        pvrtc::decode_pvrtc_2bpp(data, p.width, p.height, words, GridMode::Rust)
+        pvrtc::decode_pvrtc_2bpp(data, p.width, p.height, words, mode, order)
     } else {
-        pvrtc::decode_pvrtc_4bpp(data, p.width, p.height, words, GridMode::Rust)
+        pvrtc::decode_pvrtc_4bpp(data, p.width, p.height, words, mode, order)
     }
 }
 
@@ -241,14 +275,26 @@ fn print_size(p: Picture) {
     io::write_all(1, b" x");
     print_number(p.height as u64);
     if p.is2bpp {
-        io::write_all(1, b", 2bpp,");
+        io::write_all(1, b", 2bpp");
     } else {
-        io::write_all(1, b", 4bpp,");
+        io::write_all(1, b", 4bpp");
+    }
+}
+
+// The picture's order: only red first is said.
+fn print_order(p: Picture) {
+    let order = p.order;
+    match order {
+        ChannelOrder::BlueFirst => {}
+        ChannelOrder::RedFirst => {
+            io::write_all(1, b", red first");
+        }
     }
 }
 
 // How much is lent.
 fn print_lengths(bytes: usize, words: usize) {
+    io::write_all(1, b",");
     print_number(bytes as u64);
     io::write_all(1, b" bytes,");
     print_number(words as u64);

@@ -1,7 +1,9 @@
-// Prints what the texel call answers: chosen texels of 270 pictures, then calls on both sides of each refusal. What it must print, in
-// the file `stdout`, was written by the Rust. It is one module, since what a function prints is nothing that it could promise.
+// Prints what the texel call answers: chosen texels of 270 pictures, then calls on both sides of each refusal; each blue first and then
+// red first. What it must print, in the file `stdout`, was written by the Rust. It is one module, since what a function prints is nothing
+// that it could promise.
 mod tables;
 
+use pixel::ChannelOrder;
 use pvrtc::GridMode;
 use pvrtc::Picture;
 use pvrtc::Texel;
@@ -53,6 +55,17 @@ fn print_size(p: Picture) {
     }
 }
 
+// A picture's order: only red first is said.
+fn print_order(p: Picture) {
+    let order = p.order;
+    match order {
+        ChannelOrder::BlueFirst => {}
+        ChannelOrder::RedFirst => {
+            io::write_all(1, b", red first");
+        }
+    }
+}
+
 // The end of a line.
 fn end_line() {
     io::write_all(1, b"\n");
@@ -72,18 +85,9 @@ fn print_kinds(size: [u16; 3], is2bpp: bool, state: u64) -> u64 {
     let kinds = tables::KINDS;
     let mut reached = state;
     for i in 0..10 {
-        print_title(size, is2bpp, i);
-        reached = print_picture(size, is2bpp, kinds[i], reached);
+        reached = print_picture(size, is2bpp, i, kinds[i], reached);
     }
     reached
-}
-
-// The picture's size and depth, and the kind of its words.
-fn print_title(size: [u16; 3], is2bpp: bool, kind: usize) {
-    io::write_all(1, b"picture");
-    print_size(picture_of(size, is2bpp));
-    print_kind(kind);
-    end_line();
 }
 
 // The name of the kind.
@@ -105,30 +109,48 @@ fn print_kind(kind: usize) {
 
 // A picture of a size.
 fn picture_of(size: [u16; 3], is2bpp: bool) -> Picture {
-    pvrtc::picture_of(size[0] as usize, size[1] as usize, is2bpp, GridMode::Rust)
+    blue_first(size[0] as usize, size[1] as usize, is2bpp)
 }
 
-// One picture's texels at the chosen places.
-fn print_picture(size: [u16; 3], is2bpp: bool, kind: [u64; 2], state: u64) -> u64 {
+// A picture in the Rust's mode, and in its order.
+fn blue_first(width: usize, height: usize, is2bpp: bool) -> Picture {
+    pvrtc::picture_of(
+        width,
+        height,
+        is2bpp,
+        GridMode::Rust,
+        ChannelOrder::BlueFirst,
+    )
+}
+
+// The same picture in the other order.
+fn red_first(p: Picture) -> Picture {
+    let mode = p.mode;
+    pvrtc::picture_of(p.width, p.height, p.is2bpp, mode, ChannelOrder::RedFirst)
+}
+
+// One picture's texels at the chosen places, where its words are of a kind with these bits.
+fn print_picture(size: [u16; 3], is2bpp: bool, kind: usize, bits: [u64; 2], state: u64) -> u64 {
     let mut data = [0u8; 2048];
     let n = facts::least(size[2] as usize, 2048);
-    print_drawn(&mut data[..n], picture_of(size, is2bpp), kind, state)
+    print_drawn(&mut data[..n], picture_of(size, is2bpp), kind, bits, state)
 }
 
-// The same, after its data is drawn.
-fn print_drawn(data: &mut [u8], p: Picture, kind: [u64; 2], state: u64) -> u64 {
-    let reached = fill(data, kind, state);
-    print_places(data, p);
+// The same, after its data is drawn: blue first, and then red first.
+fn print_drawn(data: &mut [u8], p: Picture, kind: usize, bits: [u64; 2], state: u64) -> u64 {
+    let reached = fill(data, bits, state);
+    print_places(data, p, kind);
+    print_places(data, red_first(p), kind);
     reached
 }
 
 // Fills the data with bytes that the generator draws, two a step.
-fn fill(data: &mut [u8], kind: [u64; 2], state: u64) -> u64 {
+fn fill(data: &mut [u8], bits: [u64; 2], state: u64) -> u64 {
     let mut reached = state;
     let mut i = 0;
     while i < data.len() {
         reached = step_before(reached, i);
-        data[i] = byte_of(reached, kind, i);
+        data[i] = byte_of(reached, bits, i);
         i += 1;
     }
     reached
@@ -145,19 +167,29 @@ fn step(state: u64) -> u64 {
 }
 
 // Byte i: the lower or the upper of the two drawn, with the bits that the kind decides.
-fn byte_of(state: u64, kind: [u64; 2], i: usize) -> u8 {
+fn byte_of(state: u64, bits: [u64; 2], i: usize) -> u8 {
     let drawn = state / 32768 >> (8 * (i % 2));
     let place = 8 * (i % 8);
-    (((drawn & !(kind[0] >> place)) | (kind[1] >> place)) % 256) as u8
+    (((drawn & !(bits[0] >> place)) | (bits[1] >> place)) % 256) as u8
 }
 
-// The texels at the chosen places of a picture: the corners, the middle of each margin, the centre, and the rows of the block that
-// holds the centre.
-fn print_places(data: &[u8], p: Picture) {
+// A picture's title, and the texels at its chosen places: the corners, the middle of each margin, the centre, and the rows of the block
+// that holds the centre.
+fn print_places(data: &[u8], p: Picture, kind: usize) {
+    print_title(p, kind);
     print_corners(data, p);
     print_margins(data, p);
     print_centre(data, p);
     print_block(data, p);
+}
+
+// The picture's size, depth and order, and the kind of its words.
+fn print_title(p: Picture, kind: usize) {
+    io::write_all(1, b"picture");
+    print_size(p);
+    print_order(p);
+    print_kind(kind);
+    end_line();
 }
 
 // The corners.
@@ -273,14 +305,25 @@ fn print_heights(is2bpp: bool) {
     }
 }
 
-// One call on so many drawn bytes, of at most 96, and its answer.
+// One call on so many drawn bytes, of at most 96.
 fn print_call(bytes: usize, width: usize, height: usize, is2bpp: bool, x: usize, y: usize) {
-    let p = pvrtc::picture_of(width, height, is2bpp, GridMode::Rust);
+    let p = blue_first(width, height, is2bpp);
     let mut data = [0u8; 96];
     fill(&mut data, [0, 0], 1);
     let n = facts::least(bytes, 96);
-    print_question(p, n, x, y);
-    print_texel(&data[..n], p, x, y);
+    print_answers(&data[..n], p, x, y);
+}
+
+// The call blue first, and then red first, and the answers.
+fn print_answers(data: &[u8], p: Picture, x: usize, y: usize) {
+    print_answer(data, p, x, y);
+    print_answer(data, red_first(p), x, y);
+}
+
+// The call, and its answer.
+fn print_answer(data: &[u8], p: Picture, x: usize, y: usize) {
+    print_question(p, data.len(), x, y);
+    print_texel(data, p, x, y);
     end_line();
 }
 
@@ -288,6 +331,7 @@ fn print_call(bytes: usize, width: usize, height: usize, is2bpp: bool, x: usize,
 fn print_question(p: Picture, bytes: usize, x: usize, y: usize) {
     io::write_all(1, b"call");
     print_size(p);
+    print_order(p);
     io::write_all(1, b",");
     print_number(bytes as u64);
     io::write_all(1, b" bytes, texel");

@@ -10,6 +10,8 @@ use Rattle.facts.specs.Sum.{sum}
 use Rattle.facts.specs.Tab.{tab}
 use Rattle.facts.proofs.Tab.{getD-tab, tab-front, tab-same}
 use Rattle.grid.specs.Grid.{half, blockWidth}
+use Rattle.pixel.specs.Pixel.{packed}
+use Rattle.pixel.specs.declared.ChannelOrder.{ChannelOrder}
 use Rattle.word.specs.Word.{Small}
 use Rattle.word.specs.declared.PVRTCTexelColor.{PVRTCTexelColor}
 use Rattle.word.specs.declared.PVRTCTexelInfo.{PVRTCTexelInfo}
@@ -18,7 +20,7 @@ use Rattle.texel.specs.declared.PVRTCTexelColorInt.{PVRTCTexelColorInt}
 use Rattle.texel.specs.declared.Window.{Window}
 use Rattle.word.specs.declared.Fill.{Fill}
 use Rattle.word.specs.declared.Fill.the-variants.{Nothing, Around, AboveBelow, LeftRight}
-use Rattle.texel.specs.Texel.{share, factor, Words, nineSum, packed, blend, near, filled, ruleAt, punched, mixed, texelIn}
+use Rattle.texel.specs.Texel.{share, factor, Words, nineSum, blend, near, filled, ruleAt, punched, mixed, texelIn}
 use Rattle.texel.specs.Inner.{blank, nineOf, side, sumsTo, toBytes, pixel, SmallColors, Read, Low}
 use Rattle.texel.specs.Summed.{shares, shareRows, three, weighed, widened, columnOf, windowOf, acrossOf, weightsOf, onlyWeights, texelBy, withTexels, FewShares, LowColumns, LowWindow, LowWeights}
 use Rattle.texel.proofs.Shares.{half-low, half-high, share-le, share-total}
@@ -205,22 +207,22 @@ weights-low two nine read =
     record { low = λ k i l m. rw (weights-at nine k l) (read .low k i l m) }
 
 -- lent words with the texels of a block's row, from its window
-pub with-texels : (two : Bool) (nine : List PVRTCTexelInfo) (px py count : ℕ) (old : List ℕ) {weights : List (List ℕ)} {row new : List ℕ}
+pub with-texels : (order : ChannelOrder) (two : Bool) (nine : List PVRTCTexelInfo) (px py count : ℕ) (old : List ℕ) {weights : List (List ℕ)} {row new : List ℕ}
     {window : Window} {own : PVRTCTexelInfo}
     → px + count ≤ blockWidth two → py < 4 → weights ≡ weightsOf nine → row ≡ shares 2 py → window ≡ windowOf (nineOf nine) row → own ≡ nineOf nine 1 1
-    → new ≡ tab (λ i. packed (texelBy (half two) weights own window (px + i) py)) count ++ drop count old → new ≡ withTexels two nine px py count old
+    → new ≡ tab (λ i. packed order (texelBy (half two) weights own window (px + i) py)) count ++ drop count old → new ≡ withTexels order two nine px py count old
 unfolding withTexels
-with-texels two nine px py count old lx ly ew er ei eo e =
+with-texels order two nine px py count old lx ly ew er ei eo e =
     e
     ∙ rw (ew, ei, er, eo)
     (ap (λ (l : List ℕ). l ++ drop count old)
-    (tab-same (λ i. packed (texelBy (half two) (weightsOf nine) (nineOf nine 1 1) (windowOf (nineOf nine) (shares 2 py)) (px + i) py))
-    (λ i. packed (texelIn (half two) (nineOf nine) (px + i) py)) count
-    (λ i l. ap packed (by-window two nine (px + i) py (omega arith) ly))))
+    (tab-same (λ i. packed order (texelBy (half two) (weightsOf nine) (nineOf nine 1 1) (windowOf (nineOf nine) (shares 2 py)) (px + i) py))
+    (λ i. packed order (texelIn (half two) (nineOf nine) (px + i) py)) count
+    (λ i l. ap (packed order) (by-window two nine (px + i) py (omega arith) ly))))
 
 -- the first of them
-pub first-texel : (two : Bool) (nine : List PVRTCTexelInfo) (px py : ℕ) (old : List ℕ) {new : List ℕ} → new ≡ withTexels two nine px py 1 old
-    → getD new 0 0 ≡ packed (texelIn (half two) (nineOf nine) px py)
+pub first-texel : (order : ChannelOrder) (two : Bool) (nine : List PVRTCTexelInfo) (px py : ℕ) (old : List ℕ) {new : List ℕ} → new ≡ withTexels order two nine px py 1 old
+    → getD new 0 0 ≡ packed order (texelIn (half two) (nineOf nine) px py)
 unfolding withTexels
-first-texel two nine px py old e =
-    ap (λ (l : List ℕ). getD l 0 0) e ∙ tab-front (λ i. packed (texelIn (half two) (nineOf nine) (px + i) py)) 1 0 (drop 1 old) 0 (omega arith) ∙ rw (add-zero px)
+first-texel order two nine px py old e =
+    ap (λ (l : List ℕ). getD l 0 0) e ∙ tab-front (λ i. packed order (texelIn (half two) (nineOf nine) (px + i) py)) 1 0 (drop 1 old) 0 (omega arith) ∙ rw (add-zero px)

@@ -7,9 +7,10 @@ use native.Mathlib.Nat.{mul-le-mul-right, mul-add}
 use native.Mathlib.Omega.{arith}
 use Rattle.facts.proofs.Numbers.{lt-or-le}
 use Rattle.grid.specs.Grid.{half}
+use Rattle.pixel.specs.Pixel.{EightBits}
 use Rattle.texel.specs.declared.PVRTCTexelColorInt.{PVRTCTexelColorInt}
-use Rattle.texel.specs.Texel.{scaleColor, scaleAlpha, blended, packed, blend}
-use Rattle.texel.specs.Inner.{toBytes, pixel, Low, EightBits}
+use Rattle.texel.specs.Texel.{scaleColor, scaleAlpha, blended, blend}
+use Rattle.texel.specs.Inner.{toBytes, pixel, Low}
 
 -- eight parts in all, of a and of b
 parts : (a w : ℕ) → w ≤ 8 → a * (8 - w) + a * w ≡ 8 * a
@@ -57,26 +58,26 @@ formulas-are true s = rw (alpha-2bpp (s .a))
 formulas-are false s = rw (alpha-4bpp (s .a))
 
 -- sums that are small enough come to 8 bits
-pub bytes : (two : Bool) (s : PVRTCTexelColorInt) → Low (8 * half two) s → EightBits (toBytes (half two) s)
+pub bytes : (two : Bool) (s : PVRTCTexelColorInt) → Low (8 * half two) s → EightBits (pixel (toBytes (half two) s))
 unfolding scaleColor scaleAlpha
 bytes true s l = record { r = omega (arith, l .r); g = omega (arith, l .g); b = omega (arith, l .b); a = omega (arith, l .a) }
 bytes false s l = record { r = omega (arith, l .r); g = omega (arith, l .g); b = omega (arith, l .b); a = omega (arith, l .a) }
 
-pub scaled-by : (two : Bool) (s : PVRTCTexelColorInt) → Low (8 * half two) s → (formulas two s ≡ toBytes (half two) s) × EightBits (formulas two s)
+pub scaled-by : (two : Bool) (s : PVRTCTexelColorInt) → Low (8 * half two) s → (formulas two s ≡ toBytes (half two) s) × EightBits (pixel (formulas two s))
 scaled-by two s l =
     let e = formulas-are two s in
     (e, rw e (bytes two s l))
 
--- the word of two pixels of 8 bits, blended, fits 32 bits
-pub word-below : (s t : PVRTCTexelColorInt) (w : ℕ) (punched : Bool) → w ≤ 8 → EightBits s → EightBits t → packed (blend (pixel s) (pixel t) w punched) < 4294967296
-word-below s t w punched l hs ht =
-    omega (
-      arith,
-      blend-byte (s .r) (t .r) w l (hs .r) (ht .r),
-      blend-byte (s .g) (t .g) w l (hs .g) (ht .g),
-      blend-byte (s .b) (t .b) w l (hs .b) (ht .b),
-      alpha punched,
-    )
+-- two pixels of 8 bits, blended, have 8 bits
+pub blend-bytes : (s t : PVRTCTexelColorInt) (w : ℕ) (punched : Bool) → w ≤ 8 → EightBits (pixel s) → EightBits (pixel t)
+    → EightBits (blend (pixel s) (pixel t) w punched)
+blend-bytes s t w punched l hs ht =
+    record {
+      r = blend-byte (s .r) (t .r) w l (hs .r) (ht .r);
+      g = blend-byte (s .g) (t .g) w l (hs .g) (ht .g);
+      b = blend-byte (s .b) (t .b) w l (hs .b) (ht .b);
+      a = alpha punched;
+    }
   where
     alpha : (p : Bool) → cond p 0 (blended (s .a) (t .a) w) < 256
     alpha true = omega arith

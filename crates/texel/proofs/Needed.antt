@@ -13,12 +13,14 @@ use Rattle.facts.specs.Tab.{tab}
 use Rattle.grid.specs.declared.Grid.{Grid}
 use Rattle.grid.specs.Grid.{half, blockWidth, beside}
 use Rattle.grid.proofs.Torus.{beside-below, beside-own, back-again}
+use Rattle.pixel.specs.Pixel.{packed}
+use Rattle.pixel.specs.declared.ChannelOrder.{ChannelOrder}
 use Rattle.word.specs.Word.{Small, unread, wordOf}
 use Rattle.word.specs.declared.PVRTCTexelInfo.{PVRTCTexelInfo}
 use Rattle.texel.specs.Inner.{blank, nineOf, side, wordsAbout, Place, Read}
 use Rattle.texel.specs.Needed.{addressOf, wordAbout, wordIf, neededAbout, every, rowWords, slid}
 use Rattle.texel.specs.Summed.{shares, FewShares}
-use Rattle.texel.specs.Texel.{share, packed, texelIn, texelAt, gridTexel}
+use Rattle.texel.specs.Texel.{share, texelIn, texelAt, gridTexel}
 use Rattle.texel.proofs.Nine.{small-side, low-weight}
 use Rattle.texel.proofs.Same.{HasShare, texel-same}
 use Rattle.texel.proofs.Shares.{half-low}
@@ -109,27 +111,27 @@ pub place : (two : Bool) (x y : ℕ) {w : ℕ} → w ≡ blockWidth two → Plac
 place two x y e = record { across = rw e (mod-lt x (omega (arith, half-low two))); down = omega arith }
 
 -- a texel from the words that it needs
-pub texel-needed : (g : Grid) (d : List ℕ) (x y : ℕ) {w r : ℕ} {across down : List ℕ} {nine : List PVRTCTexelInfo} → w ≡ blockWidth (g .is2bpp)
+pub texel-needed : (order : ChannelOrder) (g : Grid) (d : List ℕ) (x y : ℕ) {w r : ℕ} {across down : List ℕ} {nine : List PVRTCTexelInfo} → w ≡ blockWidth (g .is2bpp)
     → across ≡ shares (half (g .is2bpp)) (x % w) → down ≡ shares 2 (y % 4) → nine ≡ neededAbout g d (x / w) (y / 4) across down
-    → r ≡ packed (texelIn (half (g .is2bpp)) (nineOf nine) (x % w) (y % 4)) → r ≡ gridTexel g d x y
+    → r ≡ packed order (texelIn (half (g .is2bpp)) (nineOf nine) (x % w) (y % 4)) → r ≡ gridTexel order g d x y
 unfolding texelAt
-texel-needed g d x y ew ea ed en er =
+texel-needed order g d x y ew ea ed en er =
     let px : ℕ = x % blockWidth (g .is2bpp) in
     let wide : 0 < blockWidth (g .is2bpp) = omega (arith, half-low (g .is2bpp)) in
     er
     ∙ rw (en, ea, ed, ew)
-    (ap packed
+    (ap (packed order)
     (needed-texel g d (x / blockWidth (g .is2bpp)) (y / 4) (shares (half (g .is2bpp)) px) (shares 2 (y % 4)) px (y % 4) (mod-lt x wide) (omega arith)
     (share-at (half (g .is2bpp)) px) (share-at 2 (y % 4))))
 
 -- and from those that its row needs
-pub texel-of-row : (g : Grid) (d : List ℕ) (x y : ℕ)
-    → packed (texelIn (half (g .is2bpp)) (nineOf (rowWords g d (x / blockWidth (g .is2bpp)) (y / 4) (y % 4))) (x % blockWidth (g .is2bpp)) (y % 4)) ≡ gridTexel g d x y
+pub texel-of-row : (order : ChannelOrder) (g : Grid) (d : List ℕ) (x y : ℕ)
+    → packed order (texelIn (half (g .is2bpp)) (nineOf (rowWords g d (x / blockWidth (g .is2bpp)) (y / 4) (y % 4))) (x % blockWidth (g .is2bpp)) (y % 4)) ≡ gridTexel order g d x y
 unfolding texelAt
-texel-of-row g d x y =
+texel-of-row order g d x y =
     let px : ℕ = x % blockWidth (g .is2bpp) in
     let wide : 0 < blockWidth (g .is2bpp) = omega (arith, half-low (g .is2bpp)) in
-    ap packed
+    ap (packed order)
     (needed-texel g d (x / blockWidth (g .is2bpp)) (y / 4) every (shares 2 (y % 4)) px (y % 4) (mod-lt x wide) (omega arith) (every-at (half (g .is2bpp)) px) (share-at 2 (y % 4)))
 
 -- the words about a block become those about the next one

@@ -1,4 +1,4 @@
--- How large a texel is: each channel lies between A's and B's, and the word has 32 bits. Assumes nothing.
+-- How large a texel is: each channel lies between A's and B's and has 8 bits, and the word has 32. Assumes nothing.
 use mathlib.Core.Path.{_≡_, refl}
 use mathlib.Core.Bool.{Bool, true, false, cond}
 use mathlib.Core.List.{List}
@@ -7,14 +7,17 @@ use native.Mathlib.Nat.{mod-lt}
 use native.Mathlib.Omega.{arith}
 use lib.ListN.{drop}
 use Rattle.grid.specs.Grid.{half, blockWidth, blockAddress, beside}
+use Rattle.pixel.proofs.Exchanged.{exchanging}
+use Rattle.pixel.specs.Pixel.{Pixel, packed, EightBits}
+use Rattle.pixel.specs.declared.ChannelOrder.{ChannelOrder}
 use Rattle.word.specs.Word.{wordOf}
 use Rattle.word.proofs.Bounds.{weight-le}
 use Rattle.word.specs.declared.Fill.{Fill}
 use Rattle.word.specs.declared.Fill.the-variants.{Nothing, Around, AboveBelow, LeftRight}
-use Rattle.texel.specs.Texel.{Words, nineSum, blended, Pixel, packed, blend, near, filled, ruleAt, punched, mixed, texelIn, texelAt}
+use Rattle.texel.specs.Texel.{Words, nineSum, blended, blend, near, filled, ruleAt, punched, mixed, texelIn, texelAt}
 use Rattle.texel.specs.Between.{Between, colorIn, LiesBetween}
-use Rattle.texel.specs.Inner.{sumsTo, toBytes, EightBits}
-use Rattle.texel.proofs.Blend.{between, bytes, word-below}
+use Rattle.texel.specs.Inner.{sumsTo, toBytes, pixel}
+use Rattle.texel.proofs.Blend.{between, bytes, blend-bytes}
 use Rattle.texel.proofs.Nine.{small-side}
 use Rattle.texel.proofs.Shares.{half-low}
 use Rattle.texel.proofs.Sums.{sums-low}
@@ -58,7 +61,7 @@ module _ (two : Bool) (of : ℕ → ℕ → List ℕ) where
 
   module _ (px py : ℕ) (lx : px < blockWidth two) (ly : py < 4) where
     -- colours A and B have 8 bits a channel
-    color-bytes : (second : Bool) → EightBits (toBytes (half two) (sumsTo (half two) words second px py 9))
+    color-bytes : (second : Bool) → EightBits (pixel (toBytes (half two) (sumsTo (half two) words second px py 9)))
     color-bytes second =
         bytes two (sumsTo (half two) words second px py 9)
         (sums-low (half two) words second px py lx ly 9 (omega arith) (λ k l. small-side two second (of (k % 3) (k / 3))))
@@ -74,21 +77,27 @@ module _ (two : Bool) (of : ℕ → ℕ → List ℕ) where
         (filled (half two) rule words (px + blockWidth two) (py + 4)) (punched (half two) (words 1 1) px py)
         (filled-le rule (px + blockWidth two) (py + 4))
 
-    pub texel-in-below : packed (texelIn (half two) words px py) < 2 ^ 32
+    -- and has 8 bits
+    texel-in-bytes : EightBits (texelIn (half two) words px py)
     unfolding texelIn mixed sumsTo nineSum
-    texel-in-below =
-        word-below (toBytes (half two) (sumsTo (half two) words false px py 9)) (toBytes (half two) (sumsTo (half two) words true px py 9))
+    texel-in-bytes =
+        blend-bytes (toBytes (half two) (sumsTo (half two) words false px py 9)) (toBytes (half two) (sumsTo (half two) words true px py 9))
         (filled (half two) (ruleAt (words 1 1) px py) words (px + blockWidth two) (py + 4)) (punched (half two) (words 1 1) px py)
         (filled-le (ruleAt (words 1 1) px py) (px + blockWidth two) (py + 4)) (color-bytes false) (color-bytes true)
 
--- every texel of a grid of words is below 2 ^ 32
-pub texel-below : (two : Bool) (gx gy : ℕ) (of : ℕ → ℕ → List ℕ) (x y : ℕ) → packed (texelAt (half two) gx gy (words two of) x y) < 2 ^ 32
+-- every texel of a grid of words has 8 bits a channel
+pub texel-bytes : (two : Bool) (gx gy : ℕ) (of : ℕ → ℕ → List ℕ) (x y : ℕ) → EightBits (texelAt (half two) gx gy (words two of) x y)
 unfolding texelAt
-texel-below two gx gy of x y =
-    texel-in-below two (λ i j. of (beside gx (x / blockWidth two) i) (beside gy (y / 4) j)) (x % blockWidth two) (y % 4)
+texel-bytes two gx gy of x y =
+    texel-in-bytes two (λ i j. of (beside gx (x / blockWidth two) i) (beside gy (y / 4) j)) (x % blockWidth two) (y % 4)
     (mod-lt x (omega (arith, half-low two))) (omega arith)
 
--- and lies between its colours A and B
+-- so its word is below 2 ^ 32, in either order
+pub texel-below : (order : ChannelOrder) (two : Bool) (gx gy : ℕ) (of : ℕ → ℕ → List ℕ) (x y : ℕ)
+    → packed order (texelAt (half two) gx gy (words two of) x y) < 2 ^ 32
+texel-below order two gx gy of x y = exchanging .fits order (texelAt (half two) gx gy (words two of) x y) (texel-bytes two gx gy of x y)
+
+-- and it lies between its colours A and B
 pub lies-between : (two : Bool) (gx gy : ℕ) (d : List ℕ) (x y : ℕ) → LiesBetween two gx gy d x y
 unfolding texelAt
 lies-between two gx gy d x y =

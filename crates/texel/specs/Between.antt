@@ -4,8 +4,9 @@ use mathlib.Core.Bool.{Bool, true, false, cond}
 use mathlib.Core.List.{List}
 use Prim.Native.Nat.{ℕ, _*_, _/_, _%_, _≤_, min, max}
 use Rattle.grid.specs.Grid.{half}
+use Rattle.pixel.specs.Pixel.{Pixel}
 use Rattle.texel.specs.Inner.{side}
-use Rattle.texel.specs.Texel.{Words, nineSum, Pixel, scaled, punched, about, texelAt, wordsOf}
+use Rattle.texel.specs.Texel.{Words, nineSum, scaled, punched, about, texelAt, wordsOf}
 
 -- The texel p unpunched lies between s and t, channel by channel. Punched through, its alpha is 0.
 pub record Between (s t p : Pixel) (hole : Bool) : Type 0 where

@@ -8,12 +8,13 @@ use Rattle.facts.specs.Sum.{sum}
 use Rattle.facts.specs.Tab.{tab}
 use Rattle.grid.specs.declared.Grid.{Grid}
 use Rattle.grid.specs.Grid.{blockWidth}
+use Rattle.pixel.specs.Pixel.{Pixel}
 use Rattle.word.specs.Word.{Small}
 use Rattle.word.specs.declared.Fill.the-variants.{Nothing}
 use Rattle.word.specs.declared.PVRTCTexelColor.{PVRTCTexelColor}
 use Rattle.word.specs.declared.PVRTCTexelInfo.{PVRTCTexelInfo}
 use Rattle.texel.specs.declared.PVRTCTexelColorInt.{PVRTCTexelColorInt}
-use Rattle.texel.specs.Texel.{Words, factor, scaleColor, scaleAlpha, Pixel, about, wordsOf}
+use Rattle.texel.specs.Texel.{Words, factor, scaleColor, scaleAlpha, about, wordsOf}
 
 -- What an index past the end of nine words would read.
 abbrev pub blank : PVRTCTexelInfo
@@ -85,10 +86,3 @@ pub record Low (t : ℕ) (s : PVRTCTexelColorInt) : Type 0 where
   pub g : s .g ≤ 31 * t
   pub b : s .b ≤ 31 * t
   pub a : s .a ≤ 15 * t
-
--- Four channels of 8 bits.
-pub record EightBits (s : PVRTCTexelColorInt) : Type 0 where
-  pub r : s .r < 256
-  pub g : s .g < 256
-  pub b : s .b < 256
-  pub a : s .a < 256

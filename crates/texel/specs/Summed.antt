@@ -6,6 +6,8 @@ use Prim.Native.Nat.{ℕ, _+_, _*_, _≤_, _<_}
 use lib.ListN.{getD, drop}
 use Rattle.facts.specs.Tab.{tab}
 use Rattle.grid.specs.Grid.{half, blockWidth}
+use Rattle.pixel.specs.Pixel.{Pixel, packed}
+use Rattle.pixel.specs.declared.ChannelOrder.{ChannelOrder}
 use Rattle.word.specs.declared.Fill.the-variants.{Nothing}
 use Rattle.word.specs.declared.PVRTCTexelColor.{PVRTCTexelColor}
 use Rattle.word.specs.declared.PVRTCTexelInfo.{PVRTCTexelInfo}
@@ -13,7 +15,7 @@ use Rattle.texel.specs.declared.Columns.{Columns}
 use Rattle.texel.specs.declared.PVRTCTexelColorInt.{PVRTCTexelColorInt}
 use Rattle.texel.specs.declared.Window.{Window}
 use Rattle.texel.specs.Inner.{blank, nineOf, side, toBytes, pixel, Low}
-use Rattle.texel.specs.Texel.{share, Words, Pixel, packed, blend, filled, ruleAt, punched, texelIn}
+use Rattle.texel.specs.Texel.{share, Words, blend, filled, ruleAt, punched, texelIn}
 
 -- The shares of the previous, the own and the next block at the place p of a block of 2h.
 abbrev pub shares : ℕ → ℕ → List ℕ
@@ -80,8 +82,8 @@ texelBy h weights own window px py =
     (filled h (ruleAt own px py) (onlyWeights weights) (px + 2 * h) (py + 4)) (punched h own px py)
 
 -- Lent words whose first `count` are the texels of the middle block of nine from the place (px, py) on.
-unfoldable pub withTexels : Bool → List PVRTCTexelInfo → (px py count : ℕ) → List ℕ → List ℕ
-withTexels two nine px py count old = tab (λ i. packed (texelIn (half two) (nineOf nine) (px + i) py)) count ++ drop count old
+unfoldable pub withTexels : ChannelOrder → Bool → List PVRTCTexelInfo → (px py count : ℕ) → List ℕ → List ℕ
+withTexels order two nine px py count old = tab (λ i. packed order (texelIn (half two) (nineOf nine) (px + i) py)) count ++ drop count old
 
 -- A row of shares: none is above 8.
 pub record FewShares (row : List ℕ) : Type 0 where

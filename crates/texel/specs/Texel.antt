@@ -9,6 +9,8 @@ use Rattle.facts.specs.Bits.{isSet}
 use Rattle.facts.specs.Sum.{sum}
 use Rattle.grid.specs.declared.Grid.{Grid}
 use Rattle.grid.specs.Grid.{half, blockAddress, beside}
+use Rattle.pixel.specs.Pixel.{Pixel, packed}
+use Rattle.pixel.specs.declared.ChannelOrder.{ChannelOrder}
 use Rattle.word.specs.Word.{wordOf}
 use Rattle.word.specs.declared.Fill.{Fill}
 use Rattle.word.specs.declared.Fill.the-variants.{Nothing, Around, AboveBelow, LeftRight}
@@ -45,17 +47,6 @@ scaleAlpha h s = 2 * s / h + s / (8 * h)
 -- The blend of a and b at the weight w, which is 0 to 8.
 unfoldable pub blended : ℕ → ℕ → ℕ → ℕ
 blended a b w = (a * (8 - w) + b * w) / 8
-
--- A texel: four channels of 8 bits.
-pub record Pixel : Type 0 where
-  pub r : ℕ
-  pub g : ℕ
-  pub b : ℕ
-  pub a : ℕ
-
--- The word of a texel.
-abbrev pub packed : Pixel → ℕ
-packed t = t .b + 256 * t .g + 65536 * t .r + 16777216 * t .a
 
 -- The four channels, each summed by `total` and brought to 8 bits.
 abbrev pub scaled : ℕ → ((PVRTCTexelColor → ℕ) → ℕ) → Pixel
@@ -126,10 +117,10 @@ texelAt h gx gy look x y = texelIn h (about gx gy look (x / (2 * h)) (y / 4)) (x
 abbrev pub wordsOf : Bool → ℕ → ℕ → List ℕ → Words
 wordsOf two gx gy d bx by = wordOf two (drop (8 * blockAddress gx gy bx by) d)
 
--- The texel (x, y), as a word, of a run of bytes whose grid is gx by gy.
-abbrev pub texelWord : Bool → ℕ → ℕ → List ℕ → ℕ → ℕ → ℕ
-texelWord two gx gy d x y = packed (texelAt (half two) gx gy (wordsOf two gx gy d) x y)
+-- The texel (x, y), as a word in an order of channels, of a run of bytes whose grid is gx by gy.
+abbrev pub texelWord : ChannelOrder → Bool → ℕ → ℕ → List ℕ → ℕ → ℕ → ℕ
+texelWord order two gx gy d x y = packed order (texelAt (half two) gx gy (wordsOf two gx gy d) x y)
 
 -- The same of a grid by its description.
-abbrev pub gridTexel : Grid → List ℕ → ℕ → ℕ → ℕ
-gridTexel g d x y = texelWord (g .is2bpp) (g .across) (g .down) d x y
+abbrev pub gridTexel : ChannelOrder → Grid → List ℕ → ℕ → ℕ → ℕ
+gridTexel order g d x y = texelWord order (g .is2bpp) (g .across) (g .down) d x y

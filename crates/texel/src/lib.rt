@@ -12,9 +12,11 @@ pub use words::texel_at;
 ghost use mathlib.Core.Path.{_≡_};
 ghost use Prim.Native.Nat.{_*_, _≤_, _<_};
 ghost use Rattle.grid.specs.Grid.{half};
-ghost use Rattle.texel.specs.Texel.{blended, packed, blend, texelIn};
-ghost use Rattle.texel.specs.Inner.{nineOf, toBytes, pixel, Place, Read, Low, EightBits};
+ghost use Rattle.pixel.specs.Pixel.{packed, EightBits};
+ghost use Rattle.texel.specs.Texel.{blended, blend, texelIn};
+ghost use Rattle.texel.specs.Inner.{nineOf, toBytes, pixel, Place, Read, Low};
 ghost use Rattle.texel.specs.Summed.{shareRows, texelBy, LowWindow, LowWeights};
+use pixel::ChannelOrder;
 use summing::shares_across;
 use summing::sum_across;
 use weights::punched;
@@ -45,7 +47,7 @@ pub struct Window {
 // A colour's sums as 8 bits.
 fn scale(s: PVRTCTexelColorInt, is2bpp: bool) -> PVRTCTexelColorInt
     requires { ⌜ Low (8 * half is2bpp) s ⌝ }
-    ensures { λ r. ⌜ (r ≡ toBytes (half is2bpp) s) × EightBits r ⌝ }
+    ensures { λ r. ⌜ (r ≡ toBytes (half is2bpp) s) × EightBits (pixel r) ⌝ }
 {
     if is2bpp {
         PVRTCTexelColorInt {
@@ -72,26 +74,25 @@ fn interpolate_color(c1: u32, c2: u32, w: u32) -> u8
     ((c1 * (8 - w) + c2 * w) / 8) as u8
 }
 
-// The word of a texel: blue in its low byte.
-pub fn color(r: u8, g: u8, b: u8, a: u8) -> u32
-    ensures { λ word. ⌜ word ≡ packed (record { r = r; g = g; b = b; a = a }) ⌝ }
-{
-    b as u32 + 256 * (g as u32) + 65536 * (r as u32) + 16777216 * (a as u32)
-}
-
-// The blend of A and B at the weight w.
-fn mix(a: PVRTCTexelColorInt, b: PVRTCTexelColorInt, w: u32, is_punched: bool) -> u32
-    requires { ⌜ EightBits a × EightBits b × (w ≤ 8) ⌝ }
-    ensures { λ r. ⌜ r ≡ packed (blend (pixel a) (pixel b) w «is_punched») ⌝ }
+// The blend of A and B at the weight w, as a word.
+fn mix(
+    a: PVRTCTexelColorInt,
+    b: PVRTCTexelColorInt,
+    w: u32,
+    is_punched: bool,
+    order: ChannelOrder,
+) -> u32
+    requires { ⌜ EightBits (pixel a) × EightBits (pixel b) × (w ≤ 8) ⌝ }
+    ensures { λ r. ⌜ r ≡ packed order (blend (pixel a) (pixel b) w «is_punched») ⌝ }
 {
     let red = interpolate_color(a.r, b.r, w);
     let green = interpolate_color(a.g, b.g, w);
     let blue = interpolate_color(a.b, b.b, w);
     let alpha = interpolate_color(a.a, b.a, w);
     if is_punched {
-        color(red, green, blue, 0)
+        pixel::color(red, green, blue, 0, order)
     } else {
-        color(red, green, blue, alpha)
+        pixel::color(red, green, blue, alpha, order)
     }
 }
 
@@ -105,24 +106,32 @@ fn texel_by(
     is2bpp: bool,
     px: usize,
     py: usize,
+    order: ChannelOrder,
 ) -> u32
     requires { ⌜ (now wide ≡ shareRows 4) × (now narrow ≡ shareRows 2) × Place is2bpp px py ⌝ }
     requires { ⌜ LowWeights is2bpp (now weights) × LowWindow window ⌝ }
-    ensures { λ r. ⌜ r ≡ packed (texelBy (half is2bpp) (now (weights .entry)) own window px py) ⌝ }
+    ensures { λ r. ⌜ r ≡ packed order (texelBy (half is2bpp) (now (weights .entry)) own window px py) ⌝ }
 {
     let row = shares_across(wide, narrow, is2bpp, px);
     let a = scale(sum_across(window.a, &row), is2bpp);
     let b = scale(sum_across(window.b, &row), is2bpp);
     let w = weight_at(weights, own, is2bpp, px, py);
-    mix(a, b, w, punched(own.punch_through_flag, is2bpp, px, py))
+    let is_punched = punched(own.punch_through_flag, is2bpp, px, py);
+    mix(a, b, w, is_punched, order)
 }
 
 // The texel at the place (px, py) of the middle block of nine.
-pub fn texel_in(nine: [PVRTCTexelInfo; 9], is2bpp: bool, px: usize, py: usize) -> u32
+pub fn texel_in(
+    nine: [PVRTCTexelInfo; 9],
+    is2bpp: bool,
+    px: usize,
+    py: usize,
+    order: ChannelOrder,
+) -> u32
     requires { ⌜ Place is2bpp px py × Read is2bpp nine ⌝ }
-    ensures { λ r. ⌜ r ≡ packed (texelIn (half is2bpp) (nineOf nine) px py) ⌝ }
+    ensures { λ r. ⌜ r ≡ packed order (texelIn (half is2bpp) (nineOf nine) px py) ⌝ }
 {
     let mut texels = [0u32; 8];
-    texels_in(nine, is2bpp, px, py, 1, &mut texels);
+    texels_in(nine, is2bpp, px, py, 1, order, &mut texels);
     texels[0]
 }

@@ -15,6 +15,7 @@ ghost use Rattle.texel.specs.Inner.{Read};
 ghost use Rattle.texel.specs.Summed.{withTexels};
 ghost use Rattle.texel.specs.Needed.{rowWords, slid};
 use grid::Grid;
+use pixel::ChannelOrder;
 use word::PVRTCTexelInfo;
 
 // `count` texels of the middle block of nine, from the place (px, py) on.
@@ -24,10 +25,11 @@ pub fn texels_in(
     px: usize,
     py: usize,
     count: usize,
+    order: ChannelOrder,
     texels: &mut [u32],
 )
     requires { ⌜ (px + count ≤ blockWidth is2bpp) × (py < 4) × Read is2bpp nine × (count ≤ length (now texels)) ⌝ }
-    ensures { λ _. ⌜ now (texels .exit) ≡ withTexels is2bpp nine px py count (now (texels .entry)) ⌝ }
+    ensures { λ _. ⌜ now (texels .exit) ≡ withTexels order is2bpp nine px py count (now (texels .entry)) ⌝ }
 {
     let wide = wide_shares();
     let narrow = narrow_shares();
@@ -36,7 +38,17 @@ pub fn texels_in(
     let window = sum_down(nine, &row);
     let own = nine[4];
     for i in 0..count {
-        texels[i] = texel_by(&wide, &narrow, &weights, own, window, is2bpp, px + i, py);
+        texels[i] = texel_by(
+            &wide,
+            &narrow,
+            &weights,
+            own,
+            window,
+            is2bpp,
+            px + i,
+            py,
+            order,
+        );
     }
 }
 

@@ -14,6 +14,7 @@ ghost use Rattle.texel.specs.Inner.{nineAbout};
 ghost use Rattle.texel.specs.Needed.{addressOf, wordAbout, wordIf, neededAbout};
 ghost use Rattle.texel.specs.Summed.{FewShares};
 use grid::Grid;
+use pixel::ChannelOrder;
 use word::PVRTCTexelInfo;
 
 // The block k of (previous, own, next) = (0, 1, 2) beside block c, round the torus.
@@ -114,9 +115,9 @@ pub fn needed_words(
 }
 
 // The texel (x, y) of a grid of blocks.
-pub fn texel_at(data: &[u8], g: Grid, x: usize, y: usize) -> u32
+pub fn texel_at(data: &[u8], g: Grid, x: usize, y: usize, order: ChannelOrder) -> u32
     requires { ⌜ Stands g (length (now «data»)) × InGrid g (x / blockWidth (g .is2bpp)) (y / 4) ⌝ }
-    ensures { λ r. ⌜ r ≡ gridTexel g (now («data» .entry)) x y ⌝ }
+    ensures { λ r. ⌜ r ≡ gridTexel order g (now («data» .entry)) x y ⌝ }
 {
     let table = grid::spread_table();
     let wide = wide_shares();
@@ -125,5 +126,5 @@ pub fn texel_at(data: &[u8], g: Grid, x: usize, y: usize) -> u32
     let across = shares_across(&wide, &narrow, g.is2bpp, x % width);
     let down = narrow[y % 4];
     let nine = needed_words(&table, data, g, x / width, y / 4, &across, &down);
-    texel_in(nine, g.is2bpp, x % width, y % 4)
+    texel_in(nine, g.is2bpp, x % width, y % 4, order)
 }

@@ -1,13 +1,15 @@
 // Pictures, the calls on them, and what the table of document 01 and the original say to a call.
 use super::{decode_pvrtc, decode_pvrtc_2bpp, decode_pvrtc_4bpp};
 
-/// The description of a picture. Its grid has the blocks that cover it, or is the stored one, with two each way at least.
+/// The description of a picture. Its grid has the blocks that cover it, or is the stored one, with two each way at least. Its words have
+/// blue in the low byte, as the original's have, or red.
 #[derive(Clone, Copy)]
 pub struct Picture {
     pub width: usize,
     pub height: usize,
     pub is2bpp: bool,
     pub stored: bool,
+    pub red_first: bool,
 }
 
 /// A call on a picture: one texel, one row into so many lent words, or all of it into so many.
@@ -19,13 +21,29 @@ pub enum Call {
 }
 
 impl Picture {
-    /// A picture in the Rust's mode.
+    /// A picture in the Rust's mode, blue first.
     pub fn new(width: usize, height: usize, is2bpp: bool) -> Picture {
         Picture {
             width,
             height,
             is2bpp,
             stored: false,
+            red_first: false,
+        }
+    }
+
+    /// The picture blue first, and red first.
+    pub fn in_both_orders(self) -> [Picture; 2] {
+        [false, true].map(|red_first| Picture { red_first, ..self })
+    }
+
+    /// The picture's word where the original has this one: red first, the low and the third byte are exchanged.
+    fn in_order(self, word: u32) -> u32 {
+        let [first, second, third, fourth] = word.to_le_bytes();
+        if self.red_first {
+            u32::from_le_bytes([third, second, first, fourth])
+        } else {
+            word
         }
     }
 
@@ -73,20 +91,30 @@ impl Picture {
         Picture::new(across * self.block_width(), down * 4, self.is2bpp)
     }
 
-    /// The size and the depth, as a line has them.
+    /// The size, the depth and the order, as a line has them.
     pub fn name(self) -> String {
         let depth = if self.is2bpp { "2bpp" } else { "4bpp" };
-        format!("{} x {}, {depth}", self.width, self.height)
+        let order = self.order_name();
+        format!("{} x {}, {depth}{order}", self.width, self.height)
     }
 
-    /// The whole picture as the original decodes it.
+    /// The order, as a line has it: only red first is said.
+    pub fn order_name(self) -> &'static str {
+        if self.red_first {
+            ", red first"
+        } else {
+            ""
+        }
+    }
+
+    /// The whole picture as the original decodes it, in the picture's order.
     pub fn decoded(self, data: &[u8]) -> Vec<u32> {
         let mut image = vec![0; self.texels()];
         assert_eq!(self.decode(data, &mut image, false), 0, "{}", self.name());
         image
     }
 
-    /// The whole picture into lent words. The original writes them, or refuses in its own words and writes nothing. Where it is no
+    /// The whole picture into lent words. The original gives them, or refuses in its own words and writes nothing. Where it is no
     /// oracle, document 01 refuses, and the words stay. It is called by the name that has the depth, if that is asked for.
     pub fn decode(self, data: &[u8], words: &mut [u32], by_name: bool) -> u32 {
         let call = Call::Whole { words: words.len() };
@@ -110,8 +138,9 @@ impl Picture {
         assert_eq!(image[written..], before[written..], "{}", self.name());
         if number == 0 {
             for y in 0..self.height {
-                words[y * self.width..][..self.width]
-                    .copy_from_slice(&image[y * asked.width..][..self.width]);
+                for x in 0..self.width {
+                    words[y * self.width + x] = self.in_order(image[y * asked.width + x]);
+                }
             }
         }
         number

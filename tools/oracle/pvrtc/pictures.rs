@@ -1,5 +1,5 @@
 // The listing `pictures`: pictures of many shapes, all rows of some, and calls on both sides of each refusal. Each line ends with a sum
-// over every lent word after the call.
+// over every lent word after the call. Each call is made blue first and then red first.
 use super::call::{sum_of, Picture};
 use crate::draw::Draw;
 
@@ -314,9 +314,16 @@ fn lent(words: usize) -> Vec<u32> {
 
 /// One call; a picture by the fast form, and again by the plain one, which must answer the same.
 fn print_line(way: Way, picture: Picture, data: &[u8], words: Vec<u32>) {
-    print_call(way, picture, data, words.clone(), "picture");
+    print_in_both_orders(way, picture, data, &words, "picture");
     if let Way::Told = way {
-        print_call(way, picture, data, words, "plain");
+        print_in_both_orders(way, picture, data, &words, "plain");
+    }
+}
+
+/// One call, blue first and red first, on the same words.
+fn print_in_both_orders(way: Way, picture: Picture, data: &[u8], words: &[u32], form: &str) {
+    for picture in picture.in_both_orders() {
+        print_call(way, picture, data, words.to_vec(), form);
     }
 }
 

@@ -1,4 +1,5 @@
-// The listing `texels`: chosen texels of 270 pictures, then texel calls on both sides of each refusal.
+// The listing `texels`: chosen texels of 270 pictures, then texel calls on both sides of each refusal. Each picture and each call comes
+// blue first and then red first.
 use super::call::Picture;
 use crate::draw::Draw;
 
@@ -83,8 +84,10 @@ fn print_kinds(draw: &mut Draw, width: usize, height: usize, is2bpp: bool) {
         for _ in 0..picture.blocks() {
             data.extend((drawn_word(draw) & !decided | set).to_le_bytes());
         }
-        println!("picture {}, {name}", picture.name());
-        print_places(picture, &picture.decoded(&data));
+        for picture in picture.in_both_orders() {
+            println!("picture {}, {name}", picture.name());
+            print_places(picture, &picture.decoded(&data));
+        }
     }
 }
 
@@ -194,12 +197,13 @@ fn print_outside(is2bpp: bool) {
 
 /// One call on so many drawn bytes, and its answer.
 fn print_call(bytes: usize, width: usize, height: usize, is2bpp: bool, x: usize, y: usize) {
-    let picture = Picture::new(width, height, is2bpp);
     let data = Draw::new().bytes(bytes);
-    let answer = match picture.decode_texel(&data, x, y) {
-        Ok(word) => format!("{word:08x}"),
-        Err(number) => format!("refused {number}"),
-    };
-    let name = picture.name();
-    println!("call {name}, {bytes} bytes, texel {x} {y}: {answer}");
+    for picture in Picture::new(width, height, is2bpp).in_both_orders() {
+        let answer = match picture.decode_texel(&data, x, y) {
+            Ok(word) => format!("{word:08x}"),
+            Err(number) => format!("refused {number}"),
+        };
+        let name = picture.name();
+        println!("call {name}, {bytes} bytes, texel {x} {y}: {answer}");
+    }
 }

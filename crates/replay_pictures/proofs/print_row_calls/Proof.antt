@@ -30,11 +30,11 @@ array-read-width-of-2 c = search needs
 width-of-requires : tie.Need-width-of-requires Inv-loop μ-loop
 width-of-requires c κs = search needs
 
-array-read-picture-of : tie.Need-array-read-picture-of Inv-loop μ-loop
-array-read-picture-of c = search needs
+array-read-blue-first : tie.Need-array-read-blue-first Inv-loop μ-loop
+array-read-blue-first c = search needs
 
-picture-of-requires : tie.Need-picture-of-requires Inv-loop μ-loop
-picture-of-requires c κs = search needs
+blue-first-requires : tie.Need-blue-first-requires Inv-loop μ-loop
+blue-first-requires c κs = search needs
 
 array-read-t9 : tie.Need-array-read-t9 Inv-loop μ-loop
 array-read-t9 c = search needs
@@ -72,8 +72,8 @@ print-row-calls-spec =
     array-read-width-of
     array-read-width-of-2
     width-of-requires
-    array-read-picture-of
-    picture-of-requires
+    array-read-blue-first
+    blue-first-requires
     array-read-t9
     array-read-print-call
     array-read-print-call-2

@@ -7,10 +7,10 @@ use Rattle.replay_texels.proofs.fill.Statement.{statement}
 use Rattle.replay_texels.proofs.fill.Tie as tie
 
 abbrev Inv-loop : tie.InvT-loop
-Inv-loop data₀ kind state reached₀ i₀ «data» reached i = length «data» ≡ length data₀
+Inv-loop data₀ bits state reached₀ i₀ «data» reached i = length «data» ≡ length data₀
 
 abbrev μ-loop : tie.MeasureT-loop
-μ-loop data₀ kind state reached₀ i₀ «data» reached i = length «data» - i
+μ-loop data₀ bits state reached₀ i₀ «data» reached i = length «data» - i
 
 loop-holds : tie.Need-loop-holds Inv-loop μ-loop
 loop-holds c = refl

@@ -5,8 +5,8 @@ use borrow.Author.Needs.{needs}
 use Rattle.replay_texels.proofs.print_call.Statement.{statement}
 use Rattle.replay_texels.proofs.print_call.Tie as tie
 
-picture-of-requires : tie.Need-picture-of-requires
-picture-of-requires c κs = search needs
+blue-first-requires : tie.Need-blue-first-requires
+blue-first-requires c κs = search needs
 
 slice-aggregate-fill : tie.Need-slice-aggregate-fill
 slice-aggregate-fill c = search needs
@@ -17,20 +17,14 @@ fill-requires c κs = search needs
 least-requires : tie.Need-least-requires
 least-requires c κs = search needs
 
-print-question-requires : tie.Need-print-question-requires
-print-question-requires c κs = search needs
-
 array-share-prefix-data : tie.Need-array-share-prefix-data
 array-share-prefix-data c = search needs
 
-slice-aggregate-print-texel : tie.Need-slice-aggregate-print-texel
-slice-aggregate-print-texel c = simp length-take (omega arith)
+slice-aggregate-print-answers : tie.Need-slice-aggregate-print-answers
+slice-aggregate-print-answers c = simp length-take (omega arith)
 
-print-texel-requires : tie.Need-print-texel-requires
-print-texel-requires c κs = search needs
-
-end-line-requires : tie.Need-end-line-requires
-end-line-requires c κs = search needs
+print-answers-requires : tie.Need-print-answers-requires
+print-answers-requires c κs = search needs
 
 returns : tie.Need-returns
 returns c = search needs
@@ -39,13 +33,11 @@ pub print-call-spec : {M : Type 1} → statement M
 print-call-spec =
     tie.close
     (tie.spec
-    picture-of-requires
+    blue-first-requires
     slice-aggregate-fill
     fill-requires
     least-requires
-    print-question-requires
     array-share-prefix-data
-    slice-aggregate-print-texel
-    print-texel-requires
-    end-line-requires
+    slice-aggregate-print-answers
+    print-answers-requires
     returns)

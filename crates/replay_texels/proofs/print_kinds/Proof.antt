@@ -13,9 +13,6 @@ abbrev μ-loop : tie.MeasureT-loop
 loop-holds : tie.Need-loop-holds Inv-loop μ-loop
 loop-holds c = search needs
 
-print-title-requires : tie.Need-print-title-requires Inv-loop μ-loop
-print-title-requires c κs = search needs
-
 mul-print-picture : tie.Need-mul-print-picture Inv-loop μ-loop
 mul-print-picture c = search needs
 
@@ -44,7 +41,6 @@ print-kinds-spec =
     Inv-loop
     μ-loop
     loop-holds
-    print-title-requires
     mul-print-picture
     array-copy-out-print-picture
     print-picture-requires

@@ -25,13 +25,13 @@ color-requires-2 c κs = search needs
 returns : tie.Need-returns
 returns c =
     let a = c .before .before .before .before .before .before .args in
-    punched (a .a) (a .b) (a .w) (c .before .if1 .taken) (c .before .before .before .before .before .interpolate-color .ensures)
+    punched (a .order) (a .a) (a .b) (a .w) (c .before .if1 .taken) (c .before .before .before .before .before .interpolate-color .ensures)
     (c .before .before .before .before .interpolate-color2 .ensures) (c .before .before .before .interpolate-color3 .ensures) (c .color .ensures)
 
 returns-2 : tie.Need-returns-2
 returns-2 c =
     let a = c .before .before .before .before .before .before .args in
-    whole (a .a) (a .b) (a .w) (c .before .if1 .left) (c .before .before .before .before .before .interpolate-color .ensures)
+    whole (a .order) (a .a) (a .b) (a .w) (c .before .if1 .left) (c .before .before .before .before .before .interpolate-color .ensures)
     (c .before .before .before .before .interpolate-color2 .ensures) (c .before .before .before .interpolate-color3 .ensures)
     (c .before .before .interpolate-color4 .ensures) (c .color2 .ensures)
 

@@ -46,7 +46,7 @@ mix-requires c κs = search needs
 returns : tie.Need-returns
 returns c =
     let a = c .before .before .before .before .before .before .before .before .before .before .args in
-    texel (a .is2bpp) (now (a .weights)) (a .own) (a .window) (a .px) (a .py)
+    texel (a .order) (a .is2bpp) (now (a .weights)) (a .own) (a .window) (a .px) (a .py)
     (c .before .before .before .before .before .before .before .before .before .shares-across .ensures)
     (c .before .before .before .before .before .before .before .sum-across .ensures)
     (c .before .before .before .before .before .before .scale .ensures .0) (c .before .before .before .before .sum-across2 .ensures)

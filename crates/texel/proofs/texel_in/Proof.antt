@@ -16,7 +16,7 @@ array-read-result c = search needs
 returns : tie.Need-returns
 returns c =
     let a = c .before .before .before .args in
-    first-texel (a .is2bpp) (a .nine) (a .px) (a .py) _ (c .before .texels-in .ensures)
+    first-texel (a .order) (a .is2bpp) (a .nine) (a .px) (a .py) _ (c .before .texels-in .ensures)
 
 pub texel-in-spec : {M : Type 1} → statement M
 texel-in-spec =

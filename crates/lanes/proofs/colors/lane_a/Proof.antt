@@ -1,11 +1,11 @@
 -- `lanes::colors::lane_a` meets its contract, both where the colour is opaque and where it is not. Assumes nothing.
-use mathlib.Core.Path.{_≡_, ap, _∙_}
+use mathlib.Core.Path.{ap₂, _∙_}
 use mathlib.Core.Bool.{cond}
 use Prim.Native.Nat.{_+_, _*_, _/_, _%_}
 use native.Mathlib.Omega.{arith}
 use borrow.Author.Needs.{needs}
 use Rattle.word.specs.Word.{opaque}
-use Rattle.lanes.proofs.Reading.{clearLanes, color-lanes, widened-color}
+use Rattle.lanes.proofs.Fields.{color-lanes, low-fields, opaque-a, clear-a}
 use Rattle.lanes.proofs.colors.lane_a.Statement.{statement}
 use Rattle.lanes.proofs.colors.lane_a.Tie as tie
 
@@ -14,27 +14,6 @@ mul-x c = search needs
 
 add-x : tie.Need-add-x
 add-x c = search needs
-
-mul-x-2 : tie.Need-mul-x-2
-mul-x-2 c = search needs
-
-add-x-2 : tie.Need-add-x-2
-add-x-2 c = search needs
-
-mul-x-3 : tie.Need-mul-x-3
-mul-x-3 c = search needs
-
-add-x-3 : tie.Need-add-x-3
-add-x-3 c = search needs
-
-add-x-4 : tie.Need-add-x-4
-add-x-4 c = search needs
-
-mul-y : tie.Need-mul-y
-mul-y c = search needs
-
-add-y : tie.Need-add-y
-add-y c = search needs
 
 mul-widen : tie.Need-mul-widen
 mul-widen c = search needs
@@ -48,25 +27,40 @@ add-widen c = search needs
 widen-requires : tie.Need-widen-requires
 widen-requires c κs = search needs
 
+mul-y : tie.Need-mul-y
+mul-y c = search needs
+
+add-y : tie.Need-add-y
+add-y c = search needs
+
 add-y-2 : tie.Need-add-y-2
 add-y-2 c = search needs
-
-mul-y-2 : tie.Need-mul-y-2
-mul-y-2 c = search needs
-
-add-y-3 : tie.Need-add-y-3
-add-y-3 c = search needs
 
 pick-requires : tie.Need-pick-requires
 pick-requires c κs = search needs
 
+mul-pick : tie.Need-mul-pick
+mul-pick c = search needs
+
+pick-requires-2 : tie.Need-pick-requires-2
+pick-requires-2 c κs = search needs
+
+in-lanes-requires : tie.Need-in-lanes-requires
+in-lanes-requires c κs =
+    let k = c .before .before .before .args .c in
+    let x = k / 2 % 16 * 2 + k / 16 % 2 in
+    let y = k / 2 % 8 * 4 + k / 4 % 4 in
+    let fields = c .before .pick .ensures ∙ ap₂ (cond (opaque k)) (opaque-a k) (clear-a k y (c .before .before .widen .ensures .0)) in
+    low-fields (c .before .before .before .args .order) k x y (omega arith) (omega arith) fields (c .pick2 .ensures)
+
 returns : tie.Need-returns
 returns c =
-    let k = c .before .before .args .c in
-    let b = k / 2 % 8 * 4 + k / 4 % 4 in
-    let w = widened-color k 0 (omega arith) (omega arith) (c .before .widen .ensures .0) in
-    let y : b + c .before .widen .result + 1125899906842624 * (k / 4096 % 8) ≡ clearLanes k b = omega arith in
-    c .pick .ensures ∙ ap (cond (opaque k) _) y ∙ color-lanes k (k / 2 % 16 * 2 + k / 16 % 2) b
+    let a = c .before .before .before .before .args in
+    let k = a .c in
+    let x = k / 2 % 16 * 2 + k / 16 % 2 in
+    let y = k / 2 % 8 * 4 + k / 4 % 4 in
+    let fields = c .before .before .pick .ensures ∙ ap₂ (cond (opaque k)) (opaque-a k) (clear-a k y (c .before .before .before .widen .ensures .0)) in
+    color-lanes (a .order) k x y (omega arith) (omega arith) fields (c .before .pick2 .ensures) (c .in-lanes .ensures)
 
 pub lane-a-spec : {M : Type 1} → statement M
 lane-a-spec =
@@ -74,19 +68,15 @@ lane-a-spec =
     (tie.spec
     mul-x
     add-x
-    mul-x-2
-    add-x-2
-    mul-x-3
-    add-x-3
-    add-x-4
-    mul-y
-    add-y
     mul-widen
     mul-widen-2
     add-widen
     widen-requires
+    mul-y
+    add-y
     add-y-2
-    mul-y-2
-    add-y-3
     pick-requires
+    mul-pick
+    pick-requires-2
+    in-lanes-requires
     returns)

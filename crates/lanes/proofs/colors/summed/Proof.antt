@@ -23,53 +23,53 @@ word-b-requires-2 c κs = search needs
 word-b-requires-3 : tie.Need-word-b-requires-3
 word-b-requires-3 c κs = search needs
 
-mul-t11 : tie.Need-mul-t11
-mul-t11 c = search needs
-
 mul-t12 : tie.Need-mul-t12
 mul-t12 c = search needs
 
-add-t13 : tie.Need-add-t13
-add-t13 c = search needs
+mul-t13 : tie.Need-mul-t13
+mul-t13 c = search needs
 
-mul-t14 : tie.Need-mul-t14
-mul-t14 c = search needs
+add-t14 : tie.Need-add-t14
+add-t14 c = search needs
 
-add-t15 : tie.Need-add-t15
-add-t15 c = search needs
+mul-t15 : tie.Need-mul-t15
+mul-t15 c = search needs
 
-mul-t16 : tie.Need-mul-t16
-mul-t16 c = search needs
+add-t16 : tie.Need-add-t16
+add-t16 c = search needs
 
 mul-t17 : tie.Need-mul-t17
 mul-t17 c = search needs
 
-add-t18 : tie.Need-add-t18
-add-t18 c = search needs
+mul-t18 : tie.Need-mul-t18
+mul-t18 c = search needs
 
-mul-t20 : tie.Need-mul-t20
-mul-t20 c = search needs
+add-t19 : tie.Need-add-t19
+add-t19 c = search needs
 
 mul-t21 : tie.Need-mul-t21
 mul-t21 c = search needs
 
-add-t22 : tie.Need-add-t22
-add-t22 c = search needs
+mul-t22 : tie.Need-mul-t22
+mul-t22 c = search needs
 
-mul-t23 : tie.Need-mul-t23
-mul-t23 c = search needs
+add-t23 : tie.Need-add-t23
+add-t23 c = search needs
 
-add-t24 : tie.Need-add-t24
-add-t24 c = search needs
+mul-t24 : tie.Need-mul-t24
+mul-t24 c = search needs
 
-mul-t25 : tie.Need-mul-t25
-mul-t25 c = search needs
+add-t25 : tie.Need-add-t25
+add-t25 c = search needs
 
 mul-t26 : tie.Need-mul-t26
 mul-t26 c = search needs
 
-add-t27 : tie.Need-add-t27
-add-t27 c = search needs
+mul-t27 : tie.Need-mul-t27
+mul-t27 c = search needs
+
+add-t28 : tie.Need-add-t28
+add-t28 c = search needs
 
 returns : tie.Need-returns
 returns c =
@@ -79,7 +79,7 @@ returns c =
     let own-a = below-a .before in
     let above-a = own-a .before in
     let a = above-a .before .before .args in
-    summed-is (now (a .d)) (a .above) (a .own) (a .below) (above-a .word-a .ensures .0) (own-a .word-a2 .ensures .0) (below-a .word-a3 .ensures .0)
+    summed-is (a .order) (now (a .d)) (a .above) (a .own) (a .below) (above-a .word-a .ensures .0) (own-a .word-a2 .ensures .0) (below-a .word-a3 .ensures .0)
     (above-b .word-b .ensures .0) (own-b .word-b2 .ensures .0) (c .word-b3 .ensures .0)
 
 pub summed-spec : {M : Type 1} → statement M
@@ -92,20 +92,20 @@ summed-spec =
     word-b-requires
     word-b-requires-2
     word-b-requires-3
-    mul-t11
     mul-t12
-    add-t13
-    mul-t14
-    add-t15
-    mul-t16
+    mul-t13
+    add-t14
+    mul-t15
+    add-t16
     mul-t17
-    add-t18
-    mul-t20
+    mul-t18
+    add-t19
     mul-t21
-    add-t22
-    mul-t23
-    add-t24
-    mul-t25
+    mul-t22
+    add-t23
+    mul-t24
+    add-t25
     mul-t26
-    add-t27
+    mul-t27
+    add-t28
     returns)

@@ -11,10 +11,10 @@ mul-result : tie.Need-mul-result
 mul-result c = search needs
 
 add-result : tie.Need-add-result
-add-result c = omega (arith, and-le-r (c .args .t / 8) 0x0000000100010001)
+add-result c = omega (arith, and-le-r (c .args .t / 8) 0x0421)
 
 returns : tie.Need-returns
-returns c = (refl, omega (arith, and-le-r (c .args .t / 8) 0x0000000100010001))
+returns c = (refl, omega (arith, and-le-r (c .args .t / 8) 0x0421))
 
 pub widen-spec : {M : Type 1} → statement M
 widen-spec = tie.close (tie.spec mul-result add-result returns)

@@ -20,7 +20,7 @@ lane-a-requires c κs = search needs
 returns : tie.Need-returns
 returns c =
     let a = c .before .before .before .args in
-    a-is (now (a .d)) (a .z) (c .before .half .ensures .0) (c .lane-a .ensures)
+    a-is (a .order) (now (a .d)) (a .z) (c .before .half .ensures .0) (c .lane-a .ensures)
 
 pub word-a-spec : {M : Type 1} → statement M
 word-a-spec = tie.close (tie.spec mul-half add-half half-requires lane-a-requires returns)

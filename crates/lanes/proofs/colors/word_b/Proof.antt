@@ -20,7 +20,7 @@ lane-b-requires c κs = search needs
 returns : tie.Need-returns
 returns c =
     let a = c .before .before .before .args in
-    b-is (now (a .d)) (a .z) (c .before .half .ensures .0) (c .lane-b .ensures)
+    b-is (a .order) (now (a .d)) (a .z) (c .before .half .ensures .0) (c .lane-b .ensures)
 
 pub word-b-spec : {M : Type 1} → statement M
 word-b-spec = tie.close (tie.spec mul-half add-half half-requires lane-b-requires returns)

@@ -15,11 +15,11 @@ use Rattle.lanes.proofs.row_2bpp.decode_block_row_2bpp.Statement.{state
 use Rattle.lanes.proofs.row_2bpp.decode_block_row_2bpp.Tie as tie
 
 abbrev Inv-loop : tie.InvT-loop
-Inv-loop «data» g by row image₀ addresses last left₀ left-weights₀ part₀ own₀ own-weights₀ bx₀ bx-end image left left-weights part own own-weights bx =
-    (bx ≤ bx-end) × Window2bpp g by «data» addresses bx left own left-weights own-weights part × RowSoFar g by row 8 «data» image₀ bx image
+Inv-loop «data» g by order row image₀ addresses last left₀ left-weights₀ part₀ own₀ own-weights₀ bx₀ bx-end image left left-weights part own own-weights bx =
+    (bx ≤ bx-end) × Window2bpp order g by «data» addresses bx left own left-weights own-weights part × RowSoFar order g by row 8 «data» image₀ bx image
 
 abbrev μ-loop : tie.MeasureT-loop
-μ-loop «data» g by row image₀ addresses last left₀ left-weights₀ part₀ own₀ own-weights₀ bx₀ bx-end image left left-weights part own own-weights bx =
+μ-loop «data» g by order row image₀ addresses last left₀ left-weights₀ part₀ own₀ own-weights₀ bx₀ bx-end image left left-weights part own own-weights bx =
     bx-end - bx
 
 -- the row's addresses, as they were made and in the loop
@@ -91,13 +91,13 @@ loop-holds c =
     let d = now (a .«data») in (
       omega arith,
       record {
-        left = column-seen r last-part d (left .column-at .ensures);
-        own = column-seen r first-part d (own .column-at2 .ensures);
+        left = column-seen r last-part d (a .order) (left .column-at .ensures);
+        own = column-seen r first-part d (a .order) (own .column-at2 .ensures);
         left-weights = weights-seen r last-part d (left-weights .weights-at .ensures);
         own-weights = weights-seen r first-part d (own-weights .weights-at2 .ensures);
         part = first-part;
       },
-      no-blocks (a .row) 8 (rowTexel (a .g) (a .by) d) (now (a .image)),
+      no-blocks (a .row) 8 (rowTexel (a .order) (a .g) (a .by) d) (now (a .image)),
     )
 
 next-column-requires : tie.Need-next-column-requires Inv-loop μ-loop
@@ -162,11 +162,11 @@ loop-again c =
     let bx = l .loop .bx in
     let window = l .loop .inv .1 in
     let next-part = part-seen r bx 2 (x .next-column .ensures) (part .part-across3 .ensures) in
-    let right = column-seen r next-part d (column .column-at3 .ensures) in
+    let right = column-seen r next-part d (a .order) (column .column-at3 .ensures) in
     let next = weights-seen r next-part d (weights .weights-at3 .ensures) in
     let own-rule = rule-of r (window .part) d (rule .rule-at .ensures .0) in
     let block = inBlock2bpp (l .loop .left) (l .loop .own) (column .column-at3 .result) (filled .fill-rows .result) in
-    let texels = texels-2bpp (a .g) (a .by) bx d right (s .pre .1) window next own-rule (filled .fill-rows .ensures) in (
+    let texels = texels-2bpp (a .order) (a .g) (a .by) bx d right (s .pre .1) window next own-rule (filled .fill-rows .ensures) in (
       omega (arith, test .loop-test .taken),
       record {
         left = slide 0 (window .own);
@@ -175,7 +175,7 @@ loop-again c =
         own-weights = slide 1 next;
         part = slide 1 next-part;
       },
-      block-laid (s .pre .0) 8 bx (starts test .1) (sheet .columns-from .ensures) d (now (a .image)) block refl (c .before .before .lay-block-2bpp .ensures)
+      block-laid (s .pre .0) 8 bx (starts test .1) (sheet .columns-from .ensures) (a .order) d (now (a .image)) block refl (c .before .before .lay-block-2bpp .ensures)
           texels (l .loop .inv .2),
     )
 
@@ -186,7 +186,7 @@ returns : tie.Need-returns Inv-loop μ-loop
 returns c =
     let l = c .before in
     let a = outset l .args in
-    all-blocks (a .row) 8 (rowTexel (a .g) (a .by) (now (a .«data»))) (now (a .image)) (l .loop .bx)
+    all-blocks (a .row) 8 (rowTexel (a .order) (a .g) (a .by) (now (a .«data»))) (now (a .image)) (l .loop .bx)
     (omega (arith, c .loop-test .left, l .before .num-blocks-x .ensures)) (l .loop .inv .2)
 
 pub decode-block-row-2bpp-spec : {M : Type 1} → statement M

@@ -14,11 +14,11 @@ use Rattle.lanes.proofs.row_4bpp.decode_block_row_4bpp.Statement.{state
 use Rattle.lanes.proofs.row_4bpp.decode_block_row_4bpp.Tie as tie
 
 abbrev Inv-loop : tie.InvT-loop
-Inv-loop «data» g by row image₀ weights keeps addresses last left₀ first own₀ codes₀ bx₀ bx-end image left own codes bx =
-    (bx ≤ bx-end) × Window4bpp g by «data» bx left own codes × RowSoFar g by row 4 «data» image₀ bx image
+Inv-loop «data» g by order row image₀ weights keeps addresses last left₀ first own₀ codes₀ bx₀ bx-end image left own codes bx =
+    (bx ≤ bx-end) × Window4bpp order g by «data» bx left own codes × RowSoFar order g by row 4 «data» image₀ bx image
 
 abbrev μ-loop : tie.MeasureT-loop
-μ-loop «data» g by row image₀ weights keeps addresses last left₀ first own₀ codes₀ bx₀ bx-end image left own codes bx = bx-end - bx
+μ-loop «data» g by order row image₀ weights keeps addresses last left₀ first own₀ codes₀ bx₀ bx-end image left own codes bx = bx-end - bx
 
 -- the row's addresses, as they were made and in the loop
 the-row : (r : tie.After-row-addresses Inv-loop μ-loop) → let a = r .before .before .before .args in
@@ -84,11 +84,11 @@ loop-holds c =
     let d = now (a .«data») in (
       omega arith,
       record {
-        left = column-seen r (part-seen r 0 0 (last-column (r .words)) (last .part-across .ensures)) d (left .column-at .ensures);
-        own = column-seen r first-part d (own .column-at2 .ensures);
+        left = column-seen r (part-seen r 0 0 (last-column (r .words)) (last .part-across .ensures)) d (a .order) (left .column-at .ensures);
+        own = column-seen r first-part d (a .order) (own .column-at2 .ensures);
         codes = codes-seen r first-part d (codes .codes-at .ensures);
       },
-      no-blocks (a .row) 4 (rowTexel (a .g) (a .by) d) (now (a .image)),
+      no-blocks (a .row) 4 (rowTexel (a .order) (a .g) (a .by) d) (now (a .image)),
     )
 
 next-column-requires : tie.Need-next-column-requires Inv-loop μ-loop
@@ -149,13 +149,13 @@ loop-again c =
     let bx = l .loop .bx in
     let window = l .loop .inv .1 in
     let next-part = part-seen r bx 2 (x .next-column .ensures) (part .part-across3 .ensures) in
-    let right = column-seen r next-part d (column .column-at3 .ensures) in
+    let right = column-seen r next-part d (a .order) (column .column-at3 .ensures) in
     let next = codes-seen r next-part d (codes .codes-at2 .ensures) in
     let block = inBlock4bpp (l .loop .left) (l .loop .own) (column .column-at3 .result) (l .loop .codes) in
-    let texels = texels-4bpp (a .g) (a .by) bx d right (s .pre .1) window in (
+    let texels = texels-4bpp (a .order) (a .g) (a .by) bx d right (s .pre .1) window in (
       omega (arith, test .loop-test .taken),
       record { left = slide 0 (window .own); own = slide 1 right; codes = slide 1 next },
-      block-laid (s .pre .0) 4 bx (starts test .1) (sheet .columns-from .ensures) d (now (a .image)) block refl (c .before .before .lay-block-4bpp .ensures)
+      block-laid (s .pre .0) 4 bx (starts test .1) (sheet .columns-from .ensures) (a .order) d (now (a .image)) block refl (c .before .before .lay-block-4bpp .ensures)
           texels (l .loop .inv .2),
     )
 
@@ -166,7 +166,7 @@ returns : tie.Need-returns Inv-loop μ-loop
 returns c =
     let l = c .before in
     let a = outset l .args in
-    all-blocks (a .row) 4 (rowTexel (a .g) (a .by) (now (a .«data»))) (now (a .image)) (l .loop .bx)
+    all-blocks (a .row) 4 (rowTexel (a .order) (a .g) (a .by) (now (a .«data»))) (now (a .image)) (l .loop .bx)
     (omega (arith, c .loop-test .left, l .before .num-blocks-x .ensures)) (l .loop .inv .2)
 
 pub decode-block-row-4bpp-spec : {M : Type 1} → statement M

@@ -35,7 +35,7 @@ returns c =
     let start = c .before .before .before .before .before .before .before .before .before .before in
     let a = start .args in
     let part = start .pre .1 in
-    buffer-laid (a .g) (now (a .«data»)) (a .bx) (a .by) (a .part) (now (a .image)) (part .0) (part .1) (part .2)
+    buffer-laid (a .order) (a .g) (now (a .«data»)) (a .bx) (a .by) (a .part) (now (a .image)) (part .0) (part .1) (part .2)
     (c .before .before .before .before .block-width .ensures)
     (c .before .before .before .before .before .before .before .nine-words .ensures)
     (c .before .before .before .before .before .before .applicate-color .ensures)

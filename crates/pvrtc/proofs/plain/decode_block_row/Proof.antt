@@ -13,11 +13,11 @@ use Rattle.pvrtc.proofs.plain.decode_block_row.Statement.{statement}
 use Rattle.pvrtc.proofs.plain.decode_block_row.Tie as tie
 
 abbrev Inv-loop : tie.InvT-loop
-Inv-loop «data» g by row image₀ width bx₀ bx-end image bx =
-    (bx ≤ bx-end) × BlocksLaid row (blockWidth (g .is2bpp)) (λ x y. gridTexel g «data» x (by * 4 + y)) image₀ bx image
+Inv-loop «data» g by order row image₀ width bx₀ bx-end image bx =
+    (bx ≤ bx-end) × BlocksLaid row (blockWidth (g .is2bpp)) (λ x y. gridTexel order g «data» x (by * 4 + y)) image₀ bx image
 
 abbrev μ-loop : tie.MeasureT-loop
-μ-loop «data» g by row image₀ width bx₀ bx-end image bx = bx-end - bx
+μ-loop «data» g by order row image₀ width bx₀ bx-end image bx = bx-end - bx
 
 block-width-requires : tie.Need-block-width-requires Inv-loop μ-loop
 block-width-requires c κs = search needs
@@ -28,7 +28,7 @@ num-blocks-x-requires c κs = search needs
 loop-holds : tie.Need-loop-holds Inv-loop μ-loop
 loop-holds c =
     let a = c .before .before .before .before .args in
-    (omega arith, no-blocks (a .row) (blockWidth (a .g .is2bpp)) (λ x y. gridTexel (a .g) (now (a .«data»)) x (a .by * 4 + y)) (now (a .image)))
+    (omega arith, no-blocks (a .row) (blockWidth (a .g .is2bpp)) (λ x y. gridTexel (a .order) (a .g) (now (a .«data»)) x (a .by * 4 + y)) (now (a .image)))
 
 -- block bx starts within the row
 starts : (c : tie.In-loop Inv-loop μ-loop) → let start = c .before .before .before .before .before .before in
@@ -72,7 +72,7 @@ loop-again c =
     let width = c .before .before .before .before .before .before .before .before .block-width .ensures in
     let part = c .before .before .before .before .columns-from .ensures ∙ ap (λ (w : ℕ). columnsFrom (a .row) (l .bx * w) w) width in (
       omega (arith, inside .loop-test .taken),
-      next-block (a .row) (blockWidth (a .g .is2bpp)) (λ x y. gridTexel (a .g) (now (a .«data»)) x (a .by * 4 + y)) (now (a .image))
+      next-block (a .row) (blockWidth (a .g .is2bpp)) (λ x y. gridTexel (a .order) (a .g) (now (a .«data»)) x (a .by * 4 + y)) (now (a .image))
           (start .pre .fits) (l .bx) _
           (c .before .before .decode-block .ensures) (rw width at (starts inside)) part (λ x y hx hy. refl) (l .inv .1),
     )
@@ -87,7 +87,7 @@ returns c =
     let l = c .before .loop in
     let cover = blocks-cover (blockWidth two) (a .row .width) (wide two) in
     let all : l .bx ≡ blocks (blockWidth two) (a .row .width) = omega (arith, c .loop-test .left, l .inv .0, c .before .before .num-blocks-x .ensures) in
-    all-blocks (a .row) (blockWidth two) (λ x y. gridTexel (a .g) (now (a .«data»)) x (a .by * 4 + y)) (now (a .image)) (l .bx) (rw all cover) (l .inv .1)
+    all-blocks (a .row) (blockWidth two) (λ x y. gridTexel (a .order) (a .g) (now (a .«data»)) x (a .by * 4 + y)) (now (a .image)) (l .bx) (rw all cover) (l .inv .1)
 
 pub decode-block-row-spec : {M : Type 1} → statement M
 decode-block-row-spec =

@@ -27,14 +27,14 @@ use Rattle.pvrtc.proofs.row_call.decode_row.Statement.{statement}
 use Rattle.pvrtc.proofs.row_call.decode_row.Tie as tie
 
 abbrev Inv-loop : tie.InvT-loop
-Inv-loop «data» p y row₀ table g nine₀ texels₀ x₀ x-end row nine texels x =
+Inv-loop «data» p y row₀ table g order nine₀ texels₀ x₀ x-end row nine texels x =
     (x ≤ p .width)
     × (refusal p (call.Row y (length row₀)) «data» ≡ 0)
     × Row (λ x y'. pictureTexel p «data» x y) row₀ 0 (p .width) x row
-    × Before g «data» y x nine texels
+    × Before order g «data» y x nine texels
 
 abbrev μ-loop : tie.MeasureT-loop
-μ-loop «data» p y row₀ table g nine₀ texels₀ x₀ x-end row nine texels x = p .width - x
+μ-loop «data» p y row₀ table g order nine₀ texels₀ x₀ x-end row nine texels x = p .width - x
 
 -- from a place in the loop, or before it: where the function starts, and the grid; past a texel's answer, the turn of the loop
 abbrev start : tie.At-loop Inv-loop μ-loop → tie.Start Inv-loop μ-loop
@@ -92,7 +92,7 @@ first-words-requires c κs =
 loop-holds : tie.Need-loop-holds Inv-loop μ-loop
 loop-holds c =
     let a = entry (c .before .before .before .before .before) .args in
-    let words = held-none (c .before .before .before .grid-of .result) (now (a .«data»)) (a .y) 0 (c .first-words .ensures) refl in
+    let words = held-none (a .p .order) (c .before .before .before .grid-of .result) (now (a .«data»)) (a .y) 0 (c .first-words .ensures) refl in
     (omega arith, told (c .before .before .before .before .before), row-none _ _ _ _, words)
 
 -- in the loop: the call is accepted, the words stand in the data, and the block of column x in the grid
@@ -140,13 +140,13 @@ texels-in-requires c κs =
     let inside = block-at l (i .loop-test .taken) .across in
     let starts = sym (c .before .before .before .before .before .before .place-of .ensures) ∙ c .before .before .before .before .before .if1 .taken in
     let block = c .before .before .before .before .block-of .ensures in
-    let words = slides g d (a .y) (l .loop .x) inside starts (l .loop .inv .3) block (c .before .before .next-words .ensures) in
-    let read = slides-read g d (a .y) (l .loop .x) words in
+    let words = slides (a .p .order) g d (a .y) (l .loop .x) inside starts (l .loop .inv .3) block (c .before .before .next-words .ensures) in
+    let read = slides-read (a .p .order) g d (a .y) (l .loop .x) words in
     (omega arith, omega arith, read, rw (c .before .block-width .ensures) (omega (arith, l .loop .inv .3 .long, half-high (g .is2bpp))))
 
 -- once the words have slid where a block begins
 held : (c : tie.Joined1 Inv-loop μ-loop) → let l = c .before .before .before in let a = start l .args in
-    Held (gridAt l) (now (a .«data»)) (a .y) (l .loop .x) (c .if1 .nine) (c .if1 .texels)
+    Held (a .p .order) (gridAt l) (now (a .«data»)) (a .y) (l .loop .x) (c .if1 .nine) (c .if1 .texels)
 held c =
     let l = c .before .before .before in
     let a = start l .args in
@@ -157,9 +157,9 @@ held c =
     ⊎-elim
     (λ t.
     let words = t .8 ∙ t .3 .ensures in
-    let texels = t .9 ∙ t .6 .ensures ∙ ap₂ (λ n (w : ℕ). withTexels (g .is2bpp) n 0 (a .y % 4) w (l .loop .texels)) (sym (t .8)) (t .4 .ensures) in
-    held-first g d (a .y) (l .loop .x) inside (sym place ∙ t .0 .taken) (l .loop .inv .3) (t .1 .ensures) words texels)
-    (λ e. rw (e .1, e .2) (held-later g d (a .y) (l .loop .x) (λ z. e .0 .left (place ∙ z)) (l .loop .inv .3)))
+    let texels = t .9 ∙ t .6 .ensures ∙ ap₂ (λ n (w : ℕ). withTexels (a .p .order) (g .is2bpp) n 0 (a .y % 4) w (l .loop .texels)) (sym (t .8)) (t .4 .ensures) in
+    held-first (a .p .order) g d (a .y) (l .loop .x) inside (sym place ∙ t .0 .taken) (l .loop .inv .3) (t .1 .ensures) words texels)
+    (λ e. rw (e .1, e .2) (held-later (a .p .order) g d (a .y) (l .loop .x) (λ z. e .0 .left (place ∙ z)) (l .loop .inv .3)))
     (c .if1 .came)
 
 known-texel-requires : tie.Need-known-texel-requires Inv-loop μ-loop
@@ -221,7 +221,7 @@ loop-again c =
       omega (arith, taken),
       inv .1,
       next-word (inv .2) its taken (omega (arith, narrow l, taken)),
-      held-next (gridAt l) d (a .y) (l .loop .x) (held (c .before .before .before .before .before)),
+      held-next (a .p .order) (gridAt l) d (a .y) (l .loop .x) (held (c .before .before .before .before .before)),
     )
 
 same-length-2 : tie.Need-same-length-2 Inv-loop μ-loop

@@ -37,7 +37,7 @@ returns c =
     let a = c .before .before .before .before .before .before .args in
     let d = now (a .«data») in
     let told = sym (c .before .before .before .before .check .ensures) ∙ ap decodedNumber (c .before .before .enum-told .given .1) in
-    by-word (a .p) d (a .x) (a .y) told (c .texel-at .ensures ∙ ap (λ (g : Grid). gridTexel g d (a .x) (a .y)) (c .before .grid-of .ensures))
+    by-word (a .p) d (a .x) (a .y) told (c .texel-at .ensures ∙ ap (λ (g : Grid). gridTexel (a .p .order) g d (a .x) (a .y)) (c .before .grid-of .ensures))
 
 returns-2 : tie.Need-returns-2
 returns-2 c =

@@ -9,16 +9,16 @@ use Rattle.grid.specs.Grid.{half}
 use Rattle.texel.proofs.Across.{row-at, few-shares, window-low, weights-low, with-texels}
 use Rattle.texel.proofs.Shares.{half-high}
 use Rattle.texel.specs.Summed.{texelBy}
-use Rattle.texel.specs.Texel.{packed}
+use Rattle.pixel.specs.Pixel.{packed}
 use Rattle.texel.proofs.rows.texels_in.Statement.{statement}
 use Rattle.texel.proofs.rows.texels_in.Tie as tie
 
 abbrev Inv-loop : tie.InvT-loop
-Inv-loop is2bpp px py count texels₀ wide narrow weights window own i₀ texels i =
-    (i ≤ count) × Filled (λ i. packed (texelBy (half is2bpp) weights own window (px + i) py)) texels₀ i texels
+Inv-loop is2bpp px py count order texels₀ wide narrow weights window own i₀ texels i =
+    (i ≤ count) × Filled (λ i. packed order (texelBy (half is2bpp) weights own window (px + i) py)) texels₀ i texels
 
 abbrev μ-loop : tie.MeasureT-loop
-μ-loop is2bpp px py count texels₀ wide narrow weights window own i₀ texels i = count - i
+μ-loop is2bpp px py count order texels₀ wide narrow weights window own i₀ texels i = count - i
 
 wide-shares-requires : tie.Need-wide-shares-requires Inv-loop μ-loop
 wide-shares-requires c κs = search needs
@@ -101,7 +101,7 @@ returns c =
     let p = c .before .before .before .before .before .before .before .before .before .before .pre in
     let l = c .before .loop in
     let all : l .i ≡ a .count = omega arith in
-    with-texels (a .is2bpp) (a .t1) (a .px) (a .py) (a .count) (now (a .texels)) (p .0) (p .1)
+    with-texels (a .order) (a .is2bpp) (a .t1) (a .px) (a .py) (a .count) (now (a .texels)) (p .0) (p .1)
     (c .before .before .before .before .before .before .weights-in .ensures)
     (row-at 2 (a .py) (c .before .before .before .before .before .before .before .narrow-shares .ensures) (p .1))
     (c .before .before .before .sum-down .ensures) refl
