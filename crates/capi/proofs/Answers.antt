@@ -46,7 +46,7 @@ one-wrote a b = (a .number ∙ sym (b .number), a .words ∙ sym (b .words))
 -- C takes the texel's answer apart again
 module _ (p : Picture) (d : List ℕ) (x y : ℕ) where
   below : pictureTexel p d x y < 4294967296
-  below = let g = gridOf p in texel-below (g .is2bpp) (g .across) (g .down) (λ i j. drop (8 * blockAddress (g .across) (g .down) i j) d) x y
+  below = let g = gridOf p in texel-below (p .order) (g .is2bpp) (g .across) (g .down) (λ i j. drop (8 * blockAddress (g .across) (g .down) i j) d) x y
 
   low : cond (eqb (refusal p (call.Texel x y) d) 0) (pictureTexel p d x y) 0 < 4294967296
   low = choice (λ (v : ℕ). v < 4294967296) (eqb (refusal p (call.Texel x y) d) 0) {a = pictureTexel p d x y} {b = 0} (λ _. below) (λ _. omega arith)

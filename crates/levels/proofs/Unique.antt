@@ -7,6 +7,7 @@ use native.Mathlib.Omega.{arith}
 use lib.Dec.{eqb, ltb}
 use borrow.Author.Tests.{lt-ltb, le-ltb, ne-eqb}
 use Rattle.facts.specs.Checks.{Check}
+use Rattle.pixel.specs.declared.ChannelOrder.{ChannelOrder}
 use Rattle.pvrtc.specs.Refusals as call-spec
 use Rattle.pvrtc.proofs.Unique as call
 use Rattle.pvr.specs.Header as pvr-spec
@@ -90,6 +91,7 @@ pub one-described : (file : List ℕ) (k : ℕ) (r s : Described) → LevelRead 
 one-described file k r s a b = same-described r s (a .number ∙ sym (b .number)) (a .given ∙ sym (b .given))
 
 -- decoding it
-pub one-decoded : {file : List ℕ} {k : ℕ} {old new new' : List ℕ} {r s : Decoded} → LevelDecoded file k old new r → LevelDecoded file k old new' s
+pub one-decoded : {order : ChannelOrder} {file : List ℕ} {k : ℕ} {old new new' : List ℕ} {r s : Decoded} → LevelDecoded order file k old new r
+    → LevelDecoded order file k old new' s
     → (r ≡ s) × (new ≡ new')
 one-decoded {r = r} {s = s} a b = (same-decoded r s (a .number ∙ sym (b .number)), a .words ∙ sym (b .words))

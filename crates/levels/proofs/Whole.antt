@@ -12,13 +12,16 @@ use Rattle.facts.proofs.Checks.{none-said, neither-said, said-first, said-later
 use Rattle.facts.proofs.Lists.{choice}
 use Rattle.facts.proofs.Order.{none-left}
 use Rattle.files.proofs.Fields.{data-is}
+use Rattle.pixel.specs.declared.ChannelOrder.{ChannelOrder}
 use Rattle.pvrtc.specs.Calls.{refusal, BlockDecoded}
+use Rattle.pvrtc.specs.Picture.{inOrder}
 use Rattle.pvrtc.specs.Refusals.{zeroSide, largeSide, outside, sizeChecks, checks}
 use Rattle.pvrtc.specs.declared.Call.the-variants.{Block}
 use Rattle.pvrtc.specs.declared.Decoded.{Decoded as Called}
 use Rattle.pvrtc.specs.declared.Decoded.the-variants as called
 use Rattle.pvrtc.specs.declared.Picture.{Picture}
 use Rattle.pvrtc.proofs.Accepted.{width-small, height-small, width-above, height-above}
+use Rattle.pvrtc.proofs.Orders.{refusal-in}
 use Rattle.levels.specs.declared.Decoded.{Decoded}
 use Rattle.levels.specs.declared.Decoded.the-variants as decoded
 use Rattle.levels.specs.declared.Described.{Described}
@@ -48,12 +51,14 @@ moved : {p q : Picture} {d e old new : List ℕ} {s : Called} → p ≡ q → d 
 moved ep ed b = rw (← ep, ← ed) b
 
 -- the block call on what the file has from the level's start on
-pub decoded-at : (file : List ℕ) (level : Level) {start : ℕ} {p : Picture} {old new : List ℕ} {s : Called} {r : Decoded}
-    → start ≡ min (level .start) (length file) → p ≡ pictureFor level
-    → BlockDecoded p (take (length file - start) (drop start file)) old new s → r ≡ calledAs s → DecodedAt file level old new r
-decoded-at file level {start} {p} {old} {new} {s} at ep b q =
-    let c : BlockDecoded (pictureFor level) (drop (level .start) file) old new s = moved ep (data-is file start (level .start) at) b in
-    record { number = ap decodedNumber q ∙ same-number s ∙ c .number; words = c .words }
+pub decoded-at : {order : ChannelOrder} (file : List ℕ) (level : Level) {start : ℕ} {p : Picture} {old new : List ℕ} {s : Called} {r : Decoded}
+    → start ≡ min (level .start) (length file) → p ≡ inOrder order (pictureFor level)
+    → BlockDecoded p (take (length file - start) (drop start file)) old new s → r ≡ calledAs s → DecodedAt order file level old new r
+decoded-at {order} file level {start} {p} {old} {new} {s} at ep b q =
+    let d = drop (level .start) file in
+    let c : BlockDecoded (inOrder order (pictureFor level)) d old new s = moved ep (data-is file start (level .start) at) b in
+    let e = refusal-in order (pictureFor level) (Block (length old)) d in
+    record { number = ap decodedNumber q ∙ same-number s ∙ c .number ∙ e; words = rw (← e) (c .words) }
 
 -- a description that refuses, and one that gives a level
 module _ {n : ℕ} {level : Level} where
@@ -204,24 +209,25 @@ module _ (file : List ℕ) (k : ℕ) where
   pub level-accepted : (room : ℕ) → decodeRefusal file k room ≡ 0 → levelRefusal file k ≡ 0
   level-accepted room e = neither-said (levelChecks file k) (callChecks (pictureOf file k) (length (levelData file k)) room) numbered-level e .0
 
-  pub as-block : {old new : List ℕ} → LevelDecoded file k old new decoded.Done → BlockDecoded (pictureOf file k) (levelData file k) old new called.Done
-  as-block {old} a =
-      let speaks = call-decides (level-accepted (length old) (sym (a .number))) (length old) in
+  pub as-block : {order : ChannelOrder} {old new : List ℕ} → LevelDecoded order file k old new decoded.Done
+      → BlockDecoded (inOrder order (pictureOf file k)) (levelData file k) old new called.Done
+  as-block {order} {old} a =
+      let speaks = call-decides (level-accepted (length old) (sym (a .number))) (length old) ∙ sym (refusal-in order (pictureOf file k) (Block (length old)) (levelData file k)) in
       record { number = a .number ∙ speaks; words = rw (← speaks) (a .words) }
 
   -- from a description to the level's picture
   module _ {old : List ℕ} {d : Described} (a : LevelRead file k d) where
-    pub not-described : {f : Refusal} → d ≡ described.Refused f → LevelDecoded file k old old (decoded.Refused f)
-    not-described {f} e =
+    pub not-described : {order : ChannelOrder} {f : Refusal} → d ≡ described.Refused f → LevelDecoded order file k old old (decoded.Refused f)
+    not-described {f = f} e =
         let first : numberOf f ≡ levelRefusal file k = of-refused a e in
         let number : numberOf f ≡ decodeRefusal file k (length old) = said-first (levelChecks file k) _ numbered-level first (number-above f) in
         let other : eqb (decodeRefusal file k (length old)) 0 ≡ false = ne-eqb (decodeRefusal file k (length old)) 0 (omega (arith, number-above f)) in
         record { number = number; words = rw other refl }
 
-    pub as-described : {level : Level} {new : List ℕ} {r : Decoded} → d ≡ described.Level level → DecodedAt file level old new r
-        → LevelDecoded file k old new r
-    as-described {level} {new} {r} e b =
+    pub as-described : {order : ChannelOrder} {level : Level} {new : List ℕ} {r : Decoded} → d ≡ described.Level level → DecodedAt order file level old new r
+        → LevelDecoded order file k old new r
+    as-described {order} {level} {new} {r} e b =
         let got = of-level a e in
         let speaks = call-decides (sym (got .0)) (length old) in
-        let c : DecodedAt file (levelOf file k) old new r = rw (got .1) at b in
+        let c : DecodedAt order file (levelOf file k) old new r = rw (got .1) at b in
         record { number = c .number ∙ sym speaks; words = rw speaks (c .words) }

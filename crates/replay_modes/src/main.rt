@@ -123,8 +123,8 @@ fn red_of(word: u32, order: ChannelOrder) -> u64 {
 }
 
 // Byte `place` of a word, of four from the low one.
-fn byte_of(word: u32, place: u32) -> u64 {
-    (word >> (8 * (place % 4))) as u64 % 256
+fn byte_of(word: u32, place: u64) -> u64 {
+    (word as u64 >> (8 * (place % 4))) % 256
 }
 
 // The texel of one colour in each order.

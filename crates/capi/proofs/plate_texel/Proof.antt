@@ -36,13 +36,13 @@ returns : tie.Need-returns
 returns c =
     let a = c .before .before .before .before .before .before .args in
     let read = rw (c .before .before .before .before .picture-of .ensures) at (c .before .before .before .decode-texel .ensures) in
-    of-word (plate (a .width) (a .height) (a .depth) (a .mode)) (now (a .«data»)) (a .x) (a .y) read (c .before .answer .given .1)
+    of-word (plate (a .width) (a .height) (a .depth) (a .mode) (a .order)) (now (a .«data»)) (a .x) (a .y) read (c .before .answer .given .1)
 
 returns-2 : tie.Need-returns-2
 returns-2 c =
     let a = c .before .before .before .before .before .before .before .args in
     let read = rw (c .before .before .before .before .before .picture-of .ensures) at (c .before .before .before .before .decode-texel .ensures) in
-    of-refusal (plate (a .width) (a .height) (a .depth) (a .mode)) (now (a .«data»)) (a .x) (a .y) read (c .before .before .answer2 .given .1)
+    of-refusal (plate (a .width) (a .height) (a .depth) (a .mode) (a .order)) (now (a .«data»)) (a .x) (a .y) read (c .before .before .answer2 .given .1)
     (c .refusal-number .ensures)
 
 pub plate-texel-spec : {M : Type 1} → statement M
