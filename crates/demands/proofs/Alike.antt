@@ -29,12 +29,14 @@ use Rattle.ktx.proofs.NoEffect as ktx-same
 use Rattle.ktx.proofs.NoEffect.{words-alike}
 use Rattle.paint.specs.Sheet.{onSheet}
 use Rattle.paint.proofs.Painted.{painted-same}
+use Rattle.pixel.specs.declared.ChannelOrder.{ChannelOrder}
 use Rattle.pvrtc.specs.Calls.{refusal}
-use Rattle.pvrtc.specs.Picture.{sheetOf, pictureTexel}
+use Rattle.pvrtc.specs.Picture.{inOrder, sheetOf, pictureTexel}
 use Rattle.pvrtc.specs.Refusals.{need, shortData, sizeChecks, roomChecks, gridChecks}
 use Rattle.pvrtc.specs.declared.Call.the-variants.{Block}
 use Rattle.pvrtc.specs.declared.Picture.{Picture}
 use Rattle.pvrtc.proofs.Accepted.{accepted}
+use Rattle.pvrtc.proofs.Orders.{refusal-in}
 use Rattle.levels.specs.Calls.{noLevel}
 use Rattle.levels.specs.Levels.{pvrLevels, ktxLevels, levelsIn, plateIn, pictureAt, needAt, sizeWordBytes, startAt, levelAt, levelOf, pictureOf, levelData}
 use Rattle.levels.specs.Refusals.{headerChecks, countChecks, wordCut, wordChecks, sizeWordChecks, ownChecks, levelChecks, callChecks}
@@ -251,22 +253,25 @@ module _ {f g : List ℕ} {k : ℕ} (s : AlikeAt f g k) where
       getD-drop at f i 0 ∙ s .own (at + i) (omega arith) (omega arith) ∙ sym (getD-drop at g i 0)
 
   -- where the level is decoded, each of its texels is the same
-  same-texel : (room : ℕ) → decodeRefusal f k room ≡ 0 → (x y : ℕ) → pictureTexel p d x y ≡ pictureTexel p e x y
-  same-texel room none =
+  same-texel : (order : ChannelOrder) (room : ℕ) → decodeRefusal f k room ≡ 0
+      → (x y : ℕ) → pictureTexel (inOrder order p) d x y ≡ pictureTexel (inOrder order p) e x y
+  same-texel order room none =
       let ok : refusal p (Block room) d ≡ 0 = sym (call-decides f k (level-accepted f k room none) room) ∙ none in
       let enough : need p ≤ length d = ltb-false (length d) (need p) (accepted p (Block room) (length d) ok .enough) in
       let short : shortData p (length e) ≡ false =
       ap₂ (λ (q : Picture) (n : ℕ). shortData q n) (same-picture (alike-before s)) (ap length from-there)
       ∙ sym (same-short (alike-before s)) ∙ accepted p (Block room) (length d) ok .enough in
-      texel-there p d e enough (ltb-false (length e) (need p) short) same-bytes (Block room) ok
+      texel-there (inOrder order p) d e enough (ltb-false (length e) (need p) short) same-bytes (Block room) (refusal-in order p (Block room) d ∙ ok)
 
-  same-written : (old : List ℕ) → cond (eqb (decodeRefusal f k (length old)) 0) (onSheet (sheetOf p) (pictureTexel p d) old) old
-      ≡ cond (eqb (decodeRefusal g k (length old)) 0) (onSheet (sheetOf (pictureOf g k)) (pictureTexel (pictureOf g k) (levelData g k)) old) old
-  same-written old =
+  same-written : (order : ChannelOrder) (old : List ℕ)
+      → cond (eqb (decodeRefusal f k (length old)) 0) (onSheet (sheetOf p) (pictureTexel (inOrder order p) d) old) old
+      ≡ cond (eqb (decodeRefusal g k (length old)) 0)
+      (onSheet (sheetOf (pictureOf g k)) (pictureTexel (inOrder order (pictureOf g k)) (levelData g k)) old) old
+  same-written order old =
       let w : ℕ = p .width in
-      chosen (decodeRefusal f k (length old)) _ (onSheet (sheetOf p) (pictureTexel p e) old) old
-      (λ none. painted-same 0 w w (p .height) _ _ old (omega arith) (λ x y _ _. same-texel (length old) none x y))
-      ∙ words-alike old (same-refusal (alike-before s) (length old)) (same-picture (alike-before s)) from-there
+      chosen (decodeRefusal f k (length old)) _ (onSheet (sheetOf p) (pictureTexel (inOrder order p) e) old) old
+      (λ none. painted-same 0 w w (p .height) _ _ old (omega arith) (λ x y _ _. same-texel order (length old) none x y))
+      ∙ words-alike old (same-refusal (alike-before s) (length old)) (ap (inOrder order) (same-picture (alike-before s))) from-there
 
   pub same-level-of : SameLevel f g k
   same-level-of =
@@ -278,13 +283,13 @@ module _ {f g : List ℕ} {k : ℕ} (s : AlikeAt f g k) where
           λ a. record { number = a .number ∙ n; given = a .given ∙ given },
           λ a. record { number = a .number ∙ sym n; given = a .given ∙ sym given },
         );
-        picture = λ old new r. let m = same-refusal b (length old) in (
-          λ a. record { number = a .number ∙ m; words = a .words ∙ same-written old },
-          λ a. record { number = a .number ∙ sym m; words = a .words ∙ sym (same-written old) },
+        picture = λ order old new r. let m = same-refusal b (length old) in (
+          λ a. record { number = a .number ∙ m; words = a .words ∙ same-written order old },
+          λ a. record { number = a .number ∙ sym m; words = a .words ∙ sym (same-written order old) },
         );
         c-field = λ field. ap₂ (λ (m : ℕ) (level : Level). fieldOf m (describedField level field) field) n (same-level b);
-        c-picture = λ old new r. let m = same-refusal b (length old) in (
-          λ a. record { number = a .number ∙ m; words = a .words ∙ same-written old },
-          λ a. record { number = a .number ∙ sym m; words = a .words ∙ sym (same-written old) },
+        c-picture = λ order old new r. let m = same-refusal b (length old) in (
+          λ a. record { number = a .number ∙ m; words = a .words ∙ same-written order old },
+          λ a. record { number = a .number ∙ sym m; words = a .words ∙ sym (same-written order old) },
         );
       }

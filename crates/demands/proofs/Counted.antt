@@ -15,6 +15,7 @@ use Rattle.facts.proofs.Numbers.{split}
 use Rattle.facts.proofs.Tab.{length-tab, getD-tab}
 use Rattle.grid.specs.Grid.{half}
 use Rattle.paint.proofs.Painted.{same-place}
+use Rattle.pixel.specs.declared.ChannelOrder.{ChannelOrder}
 use Rattle.demands.specs.Damage.{reach, Spot, spot, spotAt, damaged}
 use Rattle.demands.specs.Footprint.{footprint, isIn}
 use Rattle.demands.specs.Local.{Whole, Local}
@@ -53,7 +54,7 @@ module _ (w h k : ℕ) (l : k < w * h) where
   row-in : k / w < h
   row-in = div-lt-iff-lt-mul {k = w} {x = k} {y = h} width-above .1 (omega arith)
 
-module _ {two : Bool} {gx gy w h : ℕ} (here : Local two gx gy w h) (z : ℕ) where
+module _ {order : ChannelOrder} {two : Bool} {gx gy w h : ℕ} (here : Local order two gx gy w h) (z : ℕ) where
   -- the test that is counted, and the place of the k-th texel of the rectangle
   abbrev has : ℕ → Bool
   has k = isIn z (footprint two gx gy (k % w) (k / w))

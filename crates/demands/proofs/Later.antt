@@ -13,11 +13,13 @@ use Rattle.facts.specs.Checks.{firstOf}
 use Rattle.facts.proofs.Checks.{first-append}
 use Rattle.paint.specs.Sheet.{onSheet}
 use Rattle.paint.proofs.Painted.{painted-same}
+use Rattle.pixel.specs.declared.ChannelOrder.{ChannelOrder}
 use Rattle.pvrtc.specs.Calls.{refusal}
-use Rattle.pvrtc.specs.Picture.{sheetOf, pictureTexel}
+use Rattle.pvrtc.specs.Picture.{inOrder, sheetOf, pictureTexel}
 use Rattle.pvrtc.specs.Refusals.{need, shortData}
 use Rattle.pvrtc.specs.declared.Call.the-variants.{Block}
 use Rattle.pvrtc.specs.declared.Picture.{Picture}
+use Rattle.pvrtc.proofs.Orders.{refusal-in}
 use Rattle.pvrtc.proofs.Past.{picture-past}
 use Rattle.ktx.specs.Header.{sizeWord, payloadOffset, headerChecks}
 use Rattle.ktx.specs.NoEffect.{SameHeader}
@@ -62,31 +64,33 @@ module _ (file more : List ℕ) (enough : payloadOffset file + need (plateOf fil
       ∙ sym (first-append (headerChecks file) _ tt)
 
   -- where the file is decoded, each texel is the same
-  texel : (room : ℕ) → pictureRefusal file room ≡ 0 → (x y : ℕ) → pictureTexel p d x y ≡ pictureTexel p (d ++ more) x y
-  texel room none x y =
+  texel : (order : ChannelOrder) (room : ℕ) → pictureRefusal file room ≡ 0
+      → (x y : ℕ) → pictureTexel (inOrder order p) d x y ≡ pictureTexel (inOrder order p) (d ++ more) x y
+  texel order room none x y =
       let ok : refusal p (Block room) d ≡ 0 =
       sym (call-decides file (header-accepted file room none) (size-fits file room none) room) ∙ none in
-      sym (picture-past p d more has (Block room) ok x y)
+      sym (picture-past (inOrder order p) d more has (Block room) (refusal-in order p (Block room) d ∙ ok) x y)
 
-  words : (old : List ℕ) → cond (eqb (pictureRefusal file (length old)) 0) (onSheet (sheetOf p) (pictureTexel p d) old) old
+  words : (order : ChannelOrder) (old : List ℕ)
+      → cond (eqb (pictureRefusal file (length old)) 0) (onSheet (sheetOf p) (pictureTexel (inOrder order p) d) old) old
       ≡ cond (eqb (pictureRefusal (file ++ more) (length old)) 0)
-      (onSheet (sheetOf (plateOf (file ++ more))) (pictureTexel (plateOf (file ++ more)) (levelData (file ++ more))) old) old
-  words old =
+      (onSheet (sheetOf (plateOf (file ++ more))) (pictureTexel (inOrder order (plateOf (file ++ more))) (levelData (file ++ more))) old) old
+  words order old =
       let w : ℕ = p .width in
-      chosen (pictureRefusal file (length old)) _ (onSheet (sheetOf p) (pictureTexel p (d ++ more)) old) old
-      (λ none. painted-same 0 w w (p .height) _ _ old (omega arith) (λ x y _ _. texel (length old) none x y))
-      ∙ sym (words-alike old (number (length old)) (same-picture header) data-more)
+      chosen (pictureRefusal file (length old)) _ (onSheet (sheetOf p) (pictureTexel (inOrder order p) (d ++ more)) old) old
+      (λ none. painted-same 0 w w (p .height) _ _ old (omega arith) (λ x y _ _. texel order (length old) none x y))
+      ∙ sym (words-alike old (number (length old)) (ap (inOrder order) (same-picture header)) data-more)
 
-  pub picture-unread : (old new : List ℕ) (r : Decoded) → KtxDecoded file old new r ↔ KtxDecoded (file ++ more) old new r
-  picture-unread old new r =
+  pub picture-unread : (order : ChannelOrder) (old new : List ℕ) (r : Decoded) → KtxDecoded order file old new r ↔ KtxDecoded order (file ++ more) old new r
+  picture-unread order old new r =
       let n = number (length old) in (
-        λ a. record { number = a .number ∙ sym n; words = a .words ∙ words old },
-        λ a. record { number = a .number ∙ n; words = a .words ∙ sym (words old) },
+        λ a. record { number = a .number ∙ sym n; words = a .words ∙ words order old },
+        λ a. record { number = a .number ∙ n; words = a .words ∙ sym (words order old) },
       )
 
-  pub c-unread : (old new : List ℕ) (n : ℕ) → WroteKtx file old new n ↔ WroteKtx (file ++ more) old new n
-  c-unread old new n =
+  pub c-unread : (order : ChannelOrder) (old new : List ℕ) (n : ℕ) → WroteKtx order file old new n ↔ WroteKtx order (file ++ more) old new n
+  c-unread order old new n =
       let e = number (length old) in (
-        λ a. record { number = a .number ∙ sym e; words = a .words ∙ words old },
-        λ a. record { number = a .number ∙ e; words = a .words ∙ sym (words old) },
+        λ a. record { number = a .number ∙ sym e; words = a .words ∙ words order old },
+        λ a. record { number = a .number ∙ e; words = a .words ∙ sym (words order old) },
       )

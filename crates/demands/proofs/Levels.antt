@@ -34,6 +34,8 @@ use Rattle.levels.proofs.Answers.{numbered-header}
 use Rattle.levels.proofs.Halving.{halving}
 use Rattle.levels.proofs.Ranges.{file-ranges, allowed, as-pvr, as-ktx, picture-first, start-past, most-small, reckoned}
 use Rattle.levels.proofs.Whole.{plate-small, not-too-many, one-of-them, as-block}
+use Rattle.pixel.specs.declared.ChannelOrder.{ChannelOrder}
+use Rattle.pvrtc.specs.Picture.{inOrder}
 use Rattle.pvrtc.specs.Refusals.{sizeChecks}
 use Rattle.pvrtc.specs.declared.Call.the-variants.{Block}
 use Rattle.pvrtc.proofs.Accepted.{width-small, height-small}
@@ -86,15 +88,19 @@ module _ (f g : List ℕ) (j z : ℕ) (s : DamagedAt (startAt (levelsIn f) j) f 
       subst (λ (d : List ℕ). SameOutside (blocksOf (pictureOf f j)) (levelData f j) d z) from-there (other-blocks s (blocksOf (pictureOf f j)))
 
   near : (pictureOf f j ≡ pictureOf g j) × ((room : ℕ) → decodeRefusal f j room ≡ decodeRefusal g j room)
-      × OnlyNear (pictureOf f j) (levelData f j) (levelData g j) z
-  near = (same-picture before, same-refusal before, only-near (pictureOf f j) (levelData f j) (levelData g j) z others-same)
+      × ((order : ChannelOrder) → OnlyNear (inOrder order (pictureOf f j)) (levelData f j) (levelData g j) z)
+  near = (
+    same-picture before,
+    same-refusal before,
+    λ order. only-near (inOrder order (pictureOf f j)) (levelData f j) (levelData g j) z others-same,
+  )
 
-  few : (old new old' new' : List ℕ) → LevelDecoded f j old new Done → LevelDecoded g j old' new' Done
+  few : (order : ChannelOrder) (old new old' new' : List ℕ) → LevelDecoded order f j old new Done → LevelDecoded order g j old' new' Done
       → changed (pictureOf f j) new new' ≤ mostTouched (pictureOf f j .is2bpp)
-  few old new old' new' a b =
+  few order old new old' new' a b =
       let fb = as-block f j a in
-      let gb = moved-block (sym (same-picture before)) refl (as-block g j b) in
-      let most = local-pictures (pictureOf f j) (Block (length old)) (levelData f j) (sym (fb .number)) in
+      let gb = moved-block (sym (ap (inOrder order) (same-picture before))) refl (as-block g j b) in
+      let most = local-pictures (inOrder order (pictureOf f j)) (Block (length old)) (levelData f j) (sym (fb .number)) in
       omega (arith, most .no-more z (levelData f j) (levelData g j) old new old' new' others-same fb gb, most .at-most z)
 
   -- and all of any other level
@@ -191,12 +197,13 @@ module _ (file : List ℕ) where
   plate-data : levelData file 0 ≡ program.levelData file
   plate-data = ap (λ (n : ℕ). drop n file) plate-start
 
-  same-as-ktx : (old new new' : List ℕ) → LevelDecoded file 0 old new Done → KtxDecoded file old new' KtxDone → new ≡ new'
-  same-as-ktx old new new' a b =
+  same-as-ktx : (order : ChannelOrder) (old new new' : List ℕ) → LevelDecoded order file 0 old new Done → KtxDecoded order file old new' KtxDone
+      → new ≡ new'
+  same-as-ktx order old new new' a b =
       let e = taken-as-ktx file (header-accepted file (length old) (sym (b .number))) in
       let there : ktx-picture.plateOf file ≡ pictureOf file 0 = sym (picture-first (levelsIn file) ∙ ap plateIn (as-ktx file e)) in
       let start : ktx.payloadOffset file ≡ startAt (levelsIn file) 0 = sym (file-ranges file .of-ktx e .first) in
-      one-written (as-block file 0 a) (moved-block there (ap (λ (n : ℕ). drop n file) start) (decoded-block file b)) .1
+      one-written (as-block file 0 a) (moved-block (ap (inOrder order) there) (ap (λ (n : ℕ). drop n file) start) (decoded-block file b)) .1
 
   pub first-level : FirstLevel file
   first-level =

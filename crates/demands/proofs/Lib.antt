@@ -1,4 +1,5 @@
 pub mod Alike
+pub mod ChannelOrders
 pub mod Counted
 pub mod Damage
 pub mod Gathered

@@ -9,6 +9,7 @@ use native.Mathlib.Omega.{arith}
 use Rattle.facts.proofs.Lists.{in-or-not}
 use Rattle.grid.specs.Grid.{blockWidth, blocks, Power}
 use Rattle.grid.proofs.Counts.{blocks-cover}
+use Rattle.pixel.specs.declared.ChannelOrder.{ChannelOrder}
 use Rattle.texel.proofs.Shares.{half-low}
 use Rattle.demands.specs.Damage.{spot}
 use Rattle.demands.specs.Footprint.{footprint}
@@ -27,8 +28,8 @@ covers two gx gy w h px py hx hy =
       down = omega (arith, blocks-cover 4 h (omega arith), hy);
     }
 
-pub local : (two : Bool) (gx gy w h : ℕ) → Covers two gx gy w h → Local two gx gy w h
-local two gx gy w h c =
+pub local : (order : ChannelOrder) (two : Bool) (gx gy w h : ℕ) → Covers two gx gy w h → Local order two gx gy w h
+local order two gx gy w h c =
     let px : Power gx = c .power-across in
     let py : Power gy = c .power-down in
     let within : (x y z : ℕ) → List·Memᴰ z (footprint two gx gy x y) → z < gx * gy = λ x y. footprint-within two gx gy x y px py in
@@ -38,13 +39,13 @@ local two gx gy w h c =
       few = footprint-few two gx gy;
       rising = footprint-rising two gx gy;
       within = within;
-      enough = footprint-enough two gx gy;
-      needed = told two gx gy;
+      enough = λ x y. footprint-enough two gx gy x y order;
+      needed = told order two gx gy;
       size = damaged-size two gx gy;
       only = λ z d d' same x y lx ly differ.
           ⊎-elim
           (λ m. listed x y z (omega arith) (omega arith) m)
-          (λ n. absurd (differ (footprint-enough two gx gy x y d d' (λ b m. same b (within x y b m) (λ e. n (Memᴰ·cast (sym e) m))))))
+          (λ n. absurd (differ (footprint-enough two gx gy x y order d d' (λ b m. same b (within x y b m) (λ e. n (Memᴰ·cast (sym e) m))))))
           (in-or-not z (footprint two gx gy x y));
       listed = λ x y z lx ly m. listed x y z (omega arith) (omega arith) m;
       drawn = λ x y z lz m. damaged-all two gx gy px py z lz (spot x y) m .2;

@@ -39,10 +39,10 @@ module _ (p : Picture) (sides : zeroSide p ≡ false) (small : largeSide p ≡ f
   abbrev two : Bool
   two = p .is2bpp
 
-  here : Local two (gridOf p .across) (gridOf p .down) (p .width) (p .height)
+  here : Local (p .order) two (gridOf p .across) (gridOf p .down) (p .width) (p .height)
   here =
       let g = gridOf p in
-      local two (g .across) (g .down) (p .width) (p .height)
+      local (p .order) two (g .across) (g .down) (p .width) (p .height)
       (covers two (g .across) (g .down) (p .width) (p .height) (power-across p powers) (power-down p powers) (covers-across p) (covers-down p))
 
   -- runs that differ in block z alone have the same texel where z is not in the footprint
@@ -93,7 +93,7 @@ module _ (p : Picture) (sides : zeroSide p ≡ false) (small : largeSide p ≡ f
         changes = λ old new old' new' a b. count-same _ _ (p .width * p .height) (λ k l. tells a b k l (drawn z k) refl);
       }
     where
-      t : Told two (gridOf p .across) (gridOf p .down) z
+      t : Told (p .order) two (gridOf p .across) (gridOf p .down) z
       t = here .needed z lz
 
       fits : (d : List ℕ) (c : Call) → length d ≡ 8 * blocksOf p → shortImage p c ≡ false → outside p c ≡ false → refusal p c d ≡ 0

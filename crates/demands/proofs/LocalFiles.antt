@@ -23,6 +23,8 @@ use Rattle.ktx.specs.Picture as ktx
 use Rattle.ktx.specs.Picture.{pictureRefusal, KtxDecoded}
 use Rattle.ktx.specs.declared.Decoded.the-variants.{Done}
 use Rattle.ktx.proofs.NoEffect as ktx-same
+use Rattle.pixel.specs.declared.ChannelOrder.{ChannelOrder}
+use Rattle.pvrtc.specs.Picture.{inOrder}
 use Rattle.pvrtc.specs.declared.Call.the-variants.{Block}
 use Rattle.pvrtc.specs.declared.Picture.{Picture}
 use Rattle.pvrtc.proofs.Accepted.{passed}
@@ -75,19 +77,19 @@ module _ (f g : List ℕ) (z : ℕ) (s : DamagedAt (payloadOffset f) f g z) wher
       subst (λ (d : List ℕ). SameOutside (blocksOf (ktx.plateOf f)) (ktx.levelData f) d z) from-there (other-blocks s (blocksOf (ktx.plateOf f)))
 
   ktx-near : (ktx.plateOf f ≡ ktx.plateOf g) × ((room : ℕ) → pictureRefusal f room ≡ pictureRefusal g room)
-      × OnlyNear (ktx.plateOf f) (ktx.levelData f) (ktx.levelData g) z
+      × ((order : ChannelOrder) → OnlyNear (inOrder order (ktx.plateOf f)) (ktx.levelData f) (ktx.levelData g) z)
   ktx-near = (
     ktx-same.same-picture header,
     ktx-same.same-refusal header (even s ∙ ap length from-there),
-    only-near (ktx.plateOf f) (ktx.levelData f) (ktx.levelData g) z ktx-others,
+    λ order. only-near (inOrder order (ktx.plateOf f)) (ktx.levelData f) (ktx.levelData g) z ktx-others,
   )
 
-  ktx-few : (old new old' new' : List ℕ) → KtxDecoded f old new Done → KtxDecoded g old' new' Done
+  ktx-few : (order : ChannelOrder) (old new old' new' : List ℕ) → KtxDecoded order f old new Done → KtxDecoded order g old' new' Done
       → changed (ktx.plateOf f) new new' ≤ mostTouched (ktx.plateOf f .is2bpp)
-  ktx-few old new old' new' a b =
+  ktx-few order old new old' new' a b =
       let fb = decoded-block f a in
-      let gb = moved-block (sym (ktx-same.same-picture header)) refl (decoded-block g b) in
-      let near = local-pictures (ktx.plateOf f) (Block (length old)) (ktx.levelData f) (sym (fb .number)) in
+      let gb = moved-block (sym (ap (inOrder order) (ktx-same.same-picture header))) refl (decoded-block g b) in
+      let near = local-pictures (inOrder order (ktx.plateOf f)) (Block (length old)) (ktx.levelData f) (sym (fb .number)) in
       omega (arith, near .no-more z (ktx.levelData f) (ktx.levelData g) old new old' new' ktx-others fb gb, near .at-most z)
 
 -- a damaged file of either kind

@@ -16,7 +16,9 @@ use Rattle.grid.proofs.Onto.{bijective}
 use Rattle.grid.proofs.Powers.{power-above}
 use Rattle.grid.proofs.Torus.{beside-below}
 use Rattle.word.proofs.Same.{word-same}
-use Rattle.texel.specs.Texel.{share, factor, packed, wordsOf, texelWord}
+use Rattle.pixel.specs.Pixel.{packed}
+use Rattle.pixel.specs.declared.ChannelOrder.{ChannelOrder}
+use Rattle.texel.specs.Texel.{share, factor, wordsOf, texelWord}
 use Rattle.texel.proofs.Same.{HasShare, own-share, look-same}
 use Rattle.texel.proofs.Shares.{half-low}
 use Rattle.demands.specs.Footprint.{partOf, wrapped, footprint, Rising, SameBlock}
@@ -107,10 +109,10 @@ module _ (two : Bool) (gx gy x y : ℕ) where
       (beside-below gx (x / blockWidth two) (d .i) (power-above gx px)) (beside-below gy (y / 4) (d .j) (power-above gy py)))
 
   -- runs that agree on the footprint give the same texel
-  pub footprint-enough : (d d' : List ℕ) → ((z : ℕ) → List·Memᴰ z (footprint two gx gy x y) → SameBlock d d' z)
-      → texelWord two gx gy d x y ≡ texelWord two gx gy d' x y
-  footprint-enough d d' same =
-      ap packed (look-same (half two) gx gy x y (half-low two) (wordsOf two gx gy d) (wordsOf two gx gy d') (λ i j a b.
+  pub footprint-enough : (order : ChannelOrder) (d d' : List ℕ) → ((z : ℕ) → List·Memᴰ z (footprint two gx gy x y) → SameBlock d d' z)
+      → texelWord order two gx gy d x y ≡ texelWord order two gx gy d' x y
+  footprint-enough order d d' same =
+      ap (packed order) (look-same (half two) gx gy x y (half-low two) (wordsOf two gx gy d) (wordsOf two gx gy d') (λ i j a b.
       let z : ℕ = blockAddress gx gy (beside gx (x / blockWidth two) i) (beside gy (y / 4) j) in
       word-same two _ _ (λ k l. rw (getD-drop, getD-drop)
       (same z (in-footprint z (record { i = i; j = j; across = a; down = b; is = refl })) k l))))

@@ -20,7 +20,7 @@ use Rattle.word.specs.Word.{weight4bpp, punch4bpp, wordOf}
 use Rattle.texel.specs.Texel.{share, nineSum, scaleColor, scaleAlpha, blended, near, filled, mixed, texelIn, texelAt, gridTexel}
 use Rattle.paint.specs.Paint.{painted}
 use Rattle.pvrtc.specs.Calls.{refusal, RowDecoded}
-use Rattle.pvrtc.specs.Picture.{across, down, sideIn, gridOf, pictureTexel}
+use Rattle.pvrtc.specs.Picture.{inOrder, across, down, sideIn, gridOf, pictureTexel}
 use Rattle.pvrtc.specs.Refusals.{shortImage, outside}
 use Rattle.pvrtc.specs.declared.Call.{Call}
 use Rattle.pvrtc.specs.declared.Call.the-variants as call
@@ -102,7 +102,7 @@ module _ (p : Picture) (d : List ℕ) (e : OneGrid p) where
 
   -- and reads the same texels
   texel : pictureTexel (inMode Rust p) d ≡ pictureTexel (inMode Stored p) d
-  texel = ap (λ (g : Grid). gridTexel g d) e
+  texel = ap (λ (g : Grid). gridTexel (p .order) g d) e
 
   value : (x y : ℕ) → texelOf (inMode Rust p) d x y ≡ texelOf (inMode Stored p) d x y
   value x y = ap₂ (λ (n v : ℕ). cond (eqb n 0) v 0) (number (call.Texel x y)) (ap (λ (f : ℕ → ℕ → ℕ). f x y) texel)
@@ -136,7 +136,7 @@ pub one-grid-one-answer : OneGridOneAnswer
 one-grid-one-answer =
     record {
       calls = agree;
-      ktx = λ file old new e a. agree (ktx.plateOf file) (ktx.levelData file) e .block old new Done .1 (decoded-block file a);
+      ktx = λ order file old new e a. agree (inOrder order (ktx.plateOf file)) (ktx.levelData file) e .block old new Done .1 (decoded-block file a);
       program = λ file e ok. is-tga file ok ∙ ap (λ (f : ℕ → ℕ → ℕ). tgaBy (plateOf file) f) (sym (texel (plateOf file) (levelData file) e));
     }
 
@@ -150,7 +150,7 @@ same-grid p = rw (counted (blockWidth (p .is2bpp)) (gridOf p .across) (wide (p .
 
 pub corner : Corner
 corner p d x y v w a b =
-    seen p d x y v a .is ∙ ap (λ (g : Grid). gridTexel g d x y) (sym (same-grid p)) ∙ sym (seen (wholeOf p) d x y w b .is)
+    seen p d x y v a .is ∙ ap (λ (g : Grid). gridTexel (p .order) g d x y) (sym (same-grid p)) ∙ sym (seen (wholeOf p) d x y w b .is)
 
 -- the reds of a ruby mark's first row
 abbrev rubyReds : GridMode → List ℕ

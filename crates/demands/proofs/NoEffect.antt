@@ -20,6 +20,8 @@ use Rattle.ktx.specs.Header.{ktxBytes, isKtx}
 use Rattle.ktx.specs.NoEffect.{SameButIgnored, SameHeader as KtxHeader}
 use Rattle.ktx.specs.Picture as ktx-picture
 use Rattle.ktx.proofs.NoEffect as ktx
+use Rattle.pixel.specs.declared.ChannelOrder.{ChannelOrder}
+use Rattle.pvrtc.specs.Picture.{inOrder}
 use Rattle.capi.specs.Ktx.{ktxField, WroteKtx}
 use Rattle.capi.specs.Plate.{sizedField, fieldOf, headerField}
 use Rattle.convert.specs.Output.{saysOf, pictureOf, plateOf, levelData, programRefusal, written, output, Converted}
@@ -131,11 +133,11 @@ module _ {f g : List ℕ} (s : SameButIgnored f g) where
       ∙ sym (ap (λ (t : Says). drop (t .plate .payload) g) (as-ktx g (sym same-ktx-kind ∙ e)))
 
 -- what C is told of a picture, where the header and the data are the same
-same-wrote : {f g old new : List ℕ} {n : ℕ} → KtxHeader f g → ktx-picture.levelData f ≡ ktx-picture.levelData g
-    → WroteKtx f old new n → WroteKtx g old new n
-same-wrote {old = old} h d a =
+same-wrote : (order : ChannelOrder) {f g old new : List ℕ} {n : ℕ} → KtxHeader f g → ktx-picture.levelData f ≡ ktx-picture.levelData g
+    → WroteKtx order f old new n → WroteKtx order g old new n
+same-wrote order {old = old} h d a =
     let e = ktx.same-refusal h (ap length d) (length old) in
-    record { number = a .number ∙ e; words = a .words ∙ ktx.words-alike old e (ktx.same-picture h) d }
+    record { number = a .number ∙ e; words = a .words ∙ ktx.words-alike old e (ap (inOrder order) (ktx.same-picture h)) d }
 
 pub nothing-else : NothingElse
 nothing-else =
@@ -153,8 +155,8 @@ nothing-else =
           record {
             header = λ r. (ktx.no-effect h, ktx.no-effect k);
             field = same-ktx-field s;
-            picture = λ old new r. (ktx.same-decoded h d, ktx.same-decoded k (sym d));
-            c-picture = λ old new n. (same-wrote h d, same-wrote k (sym d));
+            picture = λ order old new r. (ktx.same-decoded h d, ktx.same-decoded k (sym d));
+            c-picture = λ order old new n. (same-wrote order h d, same-wrote order k (sym d));
             program = λ e. same-program f g (ktx-says s e) (ktx-data s e);
           };
     }

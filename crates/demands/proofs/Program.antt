@@ -61,7 +61,7 @@ tga-word p d k l =
     let w : ℕ = p .width in
     let g = gridOf p in
     let words : ℕ → ℕ → List ℕ = λ i j. drop (8 * blockAddress (g .across) (g .down) i j) d in
-    word-at w (p .height) (λ k. pictureTexel p d (k % w) (k / w)) k l (texel-below (g .is2bpp) (g .across) (g .down) words _ _)
+    word-at w (p .height) (λ k. pictureTexel p d (k % w) (k / w)) k l (texel-below (p .order) (g .is2bpp) (g .across) (g .down) words _ _)
 
 pub tga-texel : (p : Picture) (d : List ℕ) (x y : ℕ) → x < p .width → y < p .height → u32At (tga p d) (18 + 4 * placeIn p x y) ≡ pictureTexel p d x y
 tga-texel p d x y hx hy =

@@ -31,6 +31,6 @@ right p d bytes x y v g =
     let across = same-side (p .mode) (2 * halfBlock (p .is2bpp)) (p .width) (omega (arith, positive (p .is2bpp))) in
     let down = same-side (p .mode) 4 (p .height) (omega arith) in
     s .is
-    ∙ is-khronos (p .is2bpp) (gridOf p .across) (gridOf p .down) d bytes
+    ∙ is-khronos (p .order) (p .is2bpp) (gridOf p .across) (gridOf p .down) d bytes
     (power-across p powers) (power-down p powers) (few-across p small) (few-down p small) x y (inside .across) (inside .down)
-    ∙ ap₂ (λ (gx gy : ℕ). word32 (khronosPicture (p .is2bpp) gx gy d x y)) (sym across) (sym down)
+    ∙ ap₂ (λ (gx gy : ℕ). word32 (p .order) (khronosPicture (p .is2bpp) gx gy d x y)) (sym across) (sym down)

@@ -17,8 +17,9 @@ use Rattle.ktx.specs.Header as ktx
 use Rattle.ktx.specs.Reading.{ktxSays}
 use Rattle.ktx.specs.Picture as ktx-picture
 use Rattle.ktx.proofs.Whole.{as-block, of-block}
+use Rattle.pixel.specs.declared.ChannelOrder.{ChannelOrder}
 use Rattle.pvrtc.specs.Calls.{BlockDecoded}
-use Rattle.pvrtc.specs.Picture.{pictureTexel}
+use Rattle.pvrtc.specs.Picture.{inOrder, pictureTexel}
 use Rattle.pvrtc.specs.Refusals.{need, zeroSide, shortData, gridChecks}
 use Rattle.pvrtc.specs.declared.Call.the-variants.{Block}
 use Rattle.pvrtc.specs.declared.Decoded.{Decoded}
@@ -91,11 +92,13 @@ module _ {f g : List ℕ} (s : SamePlate f g) where
   same-number : programRefusal f ≡ programRefusal g
   same-number = f-number ∙ ap (λ (p : Picture). firstOf (restChecks p)) (s .plate) ∙ sym g-number
 
-  there : {old new : List ℕ} {r : Decoded} → BlockDecoded (plateOf f) (levelData f) old new r → BlockDecoded (plateOf f) (levelData g) old new r
-  there = block-there (plateOf f) (levelData f) (levelData g) (s .pvr-data) (s .ktx-data) (s .payload)
+  there : (order : ChannelOrder) {old new : List ℕ} {r : Decoded} → BlockDecoded (inOrder order (plateOf f)) (levelData f) old new r
+      → BlockDecoded (inOrder order (plateOf f)) (levelData g) old new r
+  there order = block-there (inOrder order (plateOf f)) (levelData f) (levelData g) (s .pvr-data) (s .ktx-data) (s .payload)
 
-  back : {old new : List ℕ} {r : Decoded} → BlockDecoded (plateOf f) (levelData g) old new r → BlockDecoded (plateOf f) (levelData f) old new r
-  back = block-there (plateOf f) (levelData g) (levelData f) (s .ktx-data) (s .pvr-data) (λ i h. sym (s .payload i h))
+  back : (order : ChannelOrder) {old new : List ℕ} {r : Decoded} → BlockDecoded (inOrder order (plateOf f)) (levelData g) old new r
+      → BlockDecoded (inOrder order (plateOf f)) (levelData f) old new r
+  back order = block-there (inOrder order (plateOf f)) (levelData g) (levelData f) (s .ktx-data) (s .pvr-data) (λ i h. sym (s .payload i h))
 
   -- where f's picture is written, each of its texels is that of g's data
   same-texel : programRefusal f ≡ 0 → (x y : ℕ) → pictureTexel (plateOf f) (levelData f) x y ≡ pictureTexel (plateOf f) (levelData g) x y
@@ -121,8 +124,8 @@ module _ {f g : List ℕ} (s : SamePlate f g) where
       let plate : plateOf f ≡ ktx-picture.plateOf g = s .plate ∙ g-plate in
       record {
         written = same-written (eqb (programRefusal f) 0) refl;
-        picture = λ old new r. (
-          λ b. of-block g (s .ktx-header) g-size r (moved-block plate g-data (there b)),
-          λ a. back (moved-block (sym plate) (sym g-data) (as-block g (s .ktx-header) g-size r a)),
+        picture = λ order old new r. let both = ap (inOrder order) plate in (
+          λ b. of-block g (s .ktx-header) g-size r (moved-block both g-data (there order b)),
+          λ a. back order (moved-block (sym both) (sym g-data) (as-block g (s .ktx-header) g-size r a)),
         );
       }

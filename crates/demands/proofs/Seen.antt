@@ -11,8 +11,9 @@ use Rattle.ktx.specs.Picture as ktx
 use Rattle.ktx.specs.Picture.{KtxDecoded}
 use Rattle.ktx.specs.declared.Decoded.the-variants as ktx-answer
 use Rattle.ktx.proofs.Whole.{header-accepted, size-fits, as-block}
+use Rattle.pixel.specs.declared.ChannelOrder.{ChannelOrder}
 use Rattle.pvrtc.specs.Calls.{refusal, TexelRead, Written, RowDecoded, BlockDecoded}
-use Rattle.pvrtc.specs.Picture.{pictureTexel}
+use Rattle.pvrtc.specs.Picture.{inOrder, pictureTexel}
 use Rattle.pvrtc.specs.declared.Call.{Call}
 use Rattle.pvrtc.specs.declared.Call.the-variants as call
 use Rattle.pvrtc.specs.declared.Decoded.{Decoded}
@@ -53,8 +54,8 @@ pub moved-block : {p q : Picture} {d e old new : List ℕ} {r : Decoded} → p �
 moved-block ep ed b = rw (← ep, ← ed) b
 
 -- a decoded KTX file is the block call's picture of its data
-pub decoded-block : (file : List ℕ) {old new : List ℕ} → KtxDecoded file old new ktx-answer.Done
-    → BlockDecoded (ktx.plateOf file) (ktx.levelData file) old new Done
+pub decoded-block : {order : ChannelOrder} (file : List ℕ) {old new : List ℕ} → KtxDecoded order file old new ktx-answer.Done
+    → BlockDecoded (inOrder order (ktx.plateOf file)) (ktx.levelData file) old new Done
 decoded-block file {old} a =
     let none = sym (a .number) in
     as-block file (header-accepted file (length old) none) (size-fits file (length old) none) Done a
@@ -95,13 +96,14 @@ module _ (p : Picture) (d : List ℕ) (x y v : ℕ) where
       let value : v ≡ cond (eqb (refusal p (call.Texel x y) d) 0) (pictureTexel p d x y) 0 = omega (arith, value-back p d x y) in
       of-texel none (value ∙ rw none refl)
 
-  of-ktx : (file old : List ℕ) {new : List ℕ} → ktx.plateOf file ≡ p → ktx.levelData file ≡ d → KtxDecoded file old new ktx-answer.Done
+  of-ktx : (file old : List ℕ) {new : List ℕ} → inOrder (p .order) (ktx.plateOf file) ≡ p → ktx.levelData file ≡ d
+      → KtxDecoded (p .order) file old new ktx-answer.Done
       → x < p .width → y < p .height → v ≡ getD new (placeIn p x y) 0 → Seen p d x y v
   of-ktx file old ep ed w hx hy q =
       of-block (moved-block ep ed (decoded-block file w)) hx hy q
 
-  of-level : (file : List ℕ) (k : ℕ) (old new : List ℕ) → level.pictureOf file k ≡ p → level.levelData file k ≡ d
-      → LevelDecoded file k old new level-answer.Done → x < p .width → y < p .height → v ≡ getD new (placeIn p x y) 0 → Seen p d x y v
+  of-level : (file : List ℕ) (k : ℕ) (old new : List ℕ) → inOrder (p .order) (level.pictureOf file k) ≡ p → level.levelData file k ≡ d
+      → LevelDecoded (p .order) file k old new level-answer.Done → x < p .width → y < p .height → v ≡ getD new (placeIn p x y) 0 → Seen p d x y v
   of-level file k old new ep ed w hx hy q = of-block (moved-block ep ed (level-block file k w)) hx hy q
 
   of-program : (file : List ℕ) → plateOf file ≡ p → levelData file ≡ d → programRefusal file ≡ 0 → x < p .width → y < p .height

@@ -25,7 +25,10 @@ use Rattle.word.specs.declared.PVRTCTexelColor.{PVRTCTexelColor}
 use Rattle.word.proofs.Bounds.{color-a, color-b}
 use Rattle.word.proofs.Same.{word-same}
 use Rattle.texel.specs.Inner.{side}
-use Rattle.texel.specs.Texel.{share, factor, nineSum, scaleColor, scaleAlpha, blended, packed, near, filled, mixed, texelIn, texelAt, wordsOf, texelWord}
+use Rattle.pixel.specs.Pixel.{packed}
+use Rattle.pixel.specs.declared.ChannelOrder.{ChannelOrder}
+use Rattle.pixel.specs.declared.ChannelOrder.the-variants.{BlueFirst, RedFirst}
+use Rattle.texel.specs.Texel.{share, factor, nineSum, scaleColor, scaleAlpha, blended, near, filled, mixed, texelIn, texelAt, wordsOf, texelWord}
 use Rattle.texel.proofs.Range.{words, texel-between}
 use Rattle.texel.proofs.Same.{HasShare, look-same}
 use Rattle.texel.proofs.Shares.{half-low, half-high}
@@ -57,17 +60,19 @@ module _ (v n z : ℕ) (lz : z < n) where
   one-block-other b k o l = one-block-at (8 * b + k) ∙ rw (ne-eqb ((8 * b + k) / 8) z (λ e. o (omega arith)))
 
 -- a texel whose words are all of bytes 0 is 0
-black : (two : Bool) (px py : ℕ) → px < blockWidth two → py < 4 → packed (texelIn (half two) (λ i j. wordOf two []) px py) ≡ 0
+black : (order : ChannelOrder) (two : Bool) (px py : ℕ) → px < blockWidth two → py < 4 → packed order (texelIn (half two) (λ i j. wordOf two []) px py) ≡ 0
 unfolding sum tab flags weight4bpp punch4bpp weight2bpp fill2bpp wordOf share nineSum scaleColor scaleAlpha blended near filled mixed texelIn
-black true px py lx ly = eqb→eq _ 0 (below₂ (λ px py. eqb (packed (texelIn 4 (λ i j. wordOf true []) px py)) 0) 8 4 tt px py lx ly)
-black false px py lx ly = eqb→eq _ 0 (below₂ (λ px py. eqb (packed (texelIn 2 (λ i j. wordOf false []) px py)) 0) 4 4 tt px py lx ly)
+black BlueFirst true px py lx ly = eqb→eq _ 0 (below₂ (λ px py. eqb (packed BlueFirst (texelIn 4 (λ i j. wordOf true []) px py)) 0) 8 4 tt px py lx ly)
+black BlueFirst false px py lx ly = eqb→eq _ 0 (below₂ (λ px py. eqb (packed BlueFirst (texelIn 2 (λ i j. wordOf false []) px py)) 0) 4 4 tt px py lx ly)
+black RedFirst true px py lx ly = eqb→eq _ 0 (below₂ (λ px py. eqb (packed RedFirst (texelIn 4 (λ i j. wordOf true []) px py)) 0) 8 4 tt px py lx ly)
+black RedFirst false px py lx ly = eqb→eq _ 0 (below₂ (λ px py. eqb (packed RedFirst (texelIn 2 (λ i j. wordOf false []) px py)) 0) 4 4 tt px py lx ly)
 
 -- so is every texel of a run of bytes 0
-dark : (two : Bool) (gx gy n z x y : ℕ) → z < n → texelWord two gx gy (oneBlock 0 n z) x y ≡ 0
+dark : (order : ChannelOrder) (two : Bool) (gx gy n z x y : ℕ) → z < n → texelWord order two gx gy (oneBlock 0 n z) x y ≡ 0
 unfolding texelAt
-dark two gx gy n z x y lz =
-    ap packed (look-same (half two) gx gy x y (half-low two) (wordsOf two gx gy (oneBlock 0 n z)) (λ i j. wordOf two []) (λ i j _ _. word i j))
-    ∙ black two (x % blockWidth two) (y % 4) (mod-lt x (omega (arith, half-low two))) (omega arith)
+dark order two gx gy n z x y lz =
+    ap (packed order) (look-same (half two) gx gy x y (half-low two) (wordsOf two gx gy (oneBlock 0 n z)) (λ i j. wordOf two []) (λ i j _ _. word i j))
+    ∙ black order two (x % blockWidth two) (y % 4) (mod-lt x (omega (arith, half-low two))) (omega arith)
   where
     zero-byte : (k : ℕ) → getD (oneBlock 0 n z) k 0 ≡ 0
     zero-byte k = one-block-at 0 n z lz k ∙ choice (λ b. b ≡ 0) (eqb (k / 8) z) (λ _. refl) (λ _. refl)
@@ -106,13 +111,17 @@ module _ (two : Bool) (of : ℕ → ℕ → List ℕ) (px py i j : ℕ) (lx : px
       let s : ℕ = reds second in
       omega (arith, le-div-iff-mul-le {k = half two} {x = 1} {y = s} (omega (arith, half-low two)) .1 (omega (arith, half-high two, sum-above second)))
 
-  bright : 0 < packed (texelIn (half two) (words two of) px py)
-  bright = omega (arith, texel-between two of px py lx ly .r .0, scaled-above false, scaled-above true)
+  red : 0 < texelIn (half two) (words two of) px py .r
+  red = omega (arith, texel-between two of px py lx ly .r .0, scaled-above false, scaled-above true)
+
+  bright : (order : ChannelOrder) → 0 < packed order (texelIn (half two) (words two of) px py)
+  bright BlueFirst = omega (arith, red)
+  bright RedFirst = omega (arith, red)
 
 -- two runs tell a block, at every texel that draws on it
-pub told : (two : Bool) (gx gy z : ℕ) → z < gx * gy → Told two gx gy z
+pub told : (order : ChannelOrder) (two : Bool) (gx gy z : ℕ) → z < gx * gy → Told order two gx gy z
 unfolding texelAt
-told two gx gy z lz =
+told order two gx gy z lz =
     record {
       one = oneBlock 15 n z;
       other = oneBlock 0 n z;
@@ -121,7 +130,7 @@ told two gx gy z lz =
       one-bytes = one-block-low 15 n z lz (omega arith);
       other-bytes = one-block-low 0 n z lz (omega arith);
       alone = λ b _ o k l. one-block-other 15 n z lz b k o l ∙ sym (one-block-other 0 n z lz b k o l);
-      differ = λ x y m e. omega (arith, lit x y (of-footprint two gx gy x y z m), dark two gx gy n z x y lz);
+      differ = λ x y m e. omega (arith, lit x y (of-footprint two gx gy x y z m), dark order two gx gy n z x y lz);
     }
   where
     n : ℕ
@@ -130,7 +139,7 @@ told two gx gy z lz =
     of : ℕ → ℕ → ℕ → ℕ → List ℕ
     of x y i j = drop (8 * blockAddress gx gy (beside gx (x / blockWidth two) i) (beside gy (y / 4) j)) (oneBlock 15 n z)
 
-    lit : (x y : ℕ) → Drawn two gx gy x y z → 0 < texelWord two gx gy (oneBlock 15 n z) x y
+    lit : (x y : ℕ) → Drawn two gx gy x y z → 0 < texelWord order two gx gy (oneBlock 15 n z) x y
     lit x y d =
         bright two (of x y) (x % blockWidth two) (y % 4) (d .i) (d .j) (mod-lt x (omega (arith, half-low two))) (omega arith) (d .across) (d .down)
-        (λ k l. rw (← d .is, getD-drop) (one-block-own 15 n z lz k l))
+        (λ k l. rw (← d .is, getD-drop) (one-block-own 15 n z lz k l)) order

@@ -14,12 +14,14 @@ use Rattle.facts.proofs.Checks.{exactly-when}
 use Rattle.facts.proofs.Tab.{length-tab, tab-same}
 use Rattle.paint.specs.Paint.{painted}
 use Rattle.paint.proofs.Painted.{whole}
+use Rattle.pixel.specs.declared.ChannelOrder.{ChannelOrder}
 use Rattle.pvrtc.specs.Calls.{refusal}
-use Rattle.pvrtc.specs.Picture.{pictureTexel}
+use Rattle.pvrtc.specs.Picture.{inOrder, pictureTexel}
 use Rattle.pvrtc.specs.Refusals.{checks}
 use Rattle.pvrtc.specs.declared.Call.the-variants as call
 use Rattle.pvrtc.specs.declared.Picture.{Picture}
 use Rattle.pvrtc.proofs.Accepted.{accepted, width-above, row-roomy, block-roomy}
+use Rattle.pvrtc.proofs.Orders.{refusal-in}
 use Rattle.pvrtc.proofs.Unique.{one-texel, one-written}
 use Rattle.pvr.specs.Header.{headerChecks}
 use Rattle.pvr.proofs.Answers as pvr-header
@@ -48,9 +50,9 @@ one-outcome =
       block = λ p d old new new' r s. one-written;
       pvr-header = pvr.one-header;
       ktx-header = ktx.one-header;
-      ktx-picture = λ file old new new' r s. ktx.one-decoded;
+      ktx-picture = λ order file old new new' r s. ktx.one-decoded;
       level = one-level.one-described;
-      level-picture = λ file k old new new' r s. one-level.one-decoded;
+      level-picture = λ order file k old new new' r s. one-level.one-decoded;
     }
 
 -- a number and a word that the promise of a texel call determines
@@ -124,42 +126,46 @@ total-file file =
 
 -- a KTX file whose picture is accepted: the block call on its data is
 module _ (file : List ℕ) where
-  abbrev texels : List ℕ
-  texels = pictureTexels (plateOf file) (levelData file)
+  abbrev texels : ChannelOrder → List ℕ
+  texels order = pictureTexels (inOrder order (plateOf file)) (levelData file)
 
-  ktx-front : (old : List ℕ) → pictureRefusal file (length old) ≡ 0
-      → painted 0 (plateOf file .width) (plateOf file .width) (plateOf file .height) (pictureTexel (plateOf file) (levelData file)) old
-      ≡ texels ++ drop (length texels) old
-  ktx-front old e =
+  ktx-front : (order : ChannelOrder) (old : List ℕ) → pictureRefusal file (length old) ≡ 0
+      → painted 0 (plateOf file .width) (plateOf file .width) (plateOf file .height) (pictureTexel (inOrder order (plateOf file)) (levelData file)) old
+      ≡ texels order ++ drop (length (texels order)) old
+  ktx-front order old e =
       let room = length old in
-      block-front (plateOf file) (levelData file) old (sym (call-decides file (header-accepted file room e) (size-fits file room e) room) ∙ e)
+      let ok = sym (call-decides file (header-accepted file room e) (size-fits file room e) room) ∙ e in
+      block-front (inOrder order (plateOf file)) (levelData file) old (refusal-in order (plateOf file) (call.Block room) (levelData file) ∙ ok)
 
   pub total-ktx : TotalKtx file
   total-ktx =
       record {
         header = λ r read. ktx-header.refused-when read;
         c-header = exactly-when (ktx-spec.headerChecks file);
-        picture = λ old new r w. words-outcome (pictureChecks file (length old)) texels _ (ktx-front old) (w .number) (w .words);
-        c-picture = λ old new n w. words-outcome (pictureChecks file (length old)) texels _ (ktx-front old) (w .number) (w .words);
+        picture = λ order old new r w. words-outcome (pictureChecks file (length old)) (texels order) _ (ktx-front order old) (w .number) (w .words);
+        c-picture = λ order old new n w. words-outcome (pictureChecks file (length old)) (texels order) _ (ktx-front order old) (w .number) (w .words);
       }
 
 -- a level that is decoded: the block call on its data is accepted
 module _ (file : List ℕ) (k : ℕ) where
-  abbrev ofLevel : List ℕ
-  ofLevel = pictureTexels (pictureOf file k) (dataOfLevel file k)
+  abbrev ofLevel : ChannelOrder → List ℕ
+  ofLevel order = pictureTexels (inOrder order (pictureOf file k)) (dataOfLevel file k)
 
-  level-front : (old : List ℕ) → decodeRefusal file k (length old) ≡ 0
-      → painted 0 (pictureOf file k .width) (pictureOf file k .width) (pictureOf file k .height) (pictureTexel (pictureOf file k) (dataOfLevel file k)) old
-      ≡ ofLevel ++ drop (length ofLevel) old
-  level-front old e =
+  level-front : (order : ChannelOrder) (old : List ℕ) → decodeRefusal file k (length old) ≡ 0
+      → let p = pictureOf file k in
+      painted 0 (p .width) (p .width) (p .height) (pictureTexel (inOrder order p) (dataOfLevel file k)) old
+      ≡ ofLevel order ++ drop (length (ofLevel order)) old
+  level-front order old e =
       let room = length old in
-      block-front (pictureOf file k) (dataOfLevel file k) old (sym (level.call-decides file k (level.level-accepted file k room e) room) ∙ e)
+      let ok = sym (level.call-decides file k (level.level-accepted file k room e) room) ∙ e in
+      block-front (inOrder order (pictureOf file k)) (dataOfLevel file k) old
+      (refusal-in order (pictureOf file k) (call.Block room) (dataOfLevel file k) ∙ ok)
 
   pub total-level : TotalLevel file k
   total-level =
       record {
         description = λ r read n h. rw (read .number) (exactly-when (levelChecks file k) n h);
         c-description = exactly-when (levelChecks file k);
-        picture = λ old new r w. words-outcome (decodeChecks file k (length old)) ofLevel _ (level-front old) (w .number) (w .words);
-        c-picture = λ old new n w. words-outcome (decodeChecks file k (length old)) ofLevel _ (level-front old) (w .number) (w .words);
+        picture = λ order old new r w. words-outcome (decodeChecks file k (length old)) (ofLevel order) _ (level-front order old) (w .number) (w .words);
+        c-picture = λ order old new n w. words-outcome (decodeChecks file k (length old)) (ofLevel order) _ (level-front order old) (w .number) (w .words);
       }

@@ -25,6 +25,9 @@ use Rattle.levels.specs.declared.Decoded.{Decoded}
 use Rattle.levels.specs.declared.Decoded.the-variants.{Done}
 use Rattle.levels.specs.declared.Described.{Described}
 use Rattle.levels.specs.declared.Levels.{Levels}
+use Rattle.pixel.specs.declared.ChannelOrder.{ChannelOrder}
+use Rattle.pixel.specs.declared.ChannelOrder.the-variants.{BlueFirst}
+use Rattle.pvrtc.specs.Picture.{inOrder}
 use Rattle.pvrtc.specs.Refusals.{sizeChecks}
 use Rattle.capi.specs.Level.{levelField, WroteLevel}
 use Rattle.convert.specs.Output as program
@@ -63,12 +66,12 @@ pub record AlikeAt (f g : List ℕ) (k : ℕ) : Type 0 where
   pub header : (i : ℕ) → i < headerBytes f → isUnread f i ≡ false → getD f i 0 ≡ getD g i 0
   pub own : let l = levelsIn f in (i : ℕ) → startAt l k ≤ i + sizeWordBytes (l .sized) → i < endAt l k → getD f i 0 ≡ getD g i 0
 
--- Level k is the same in both: whatever describing or decoding it answers and writes, and what C is told.
+-- Level k is the same in both: whatever describing or decoding it answers and writes, in either order, and what C is told.
 pub record SameLevel (f g : List ℕ) (k : ℕ) : Type 0 where
   pub description : (r : Described) → LevelRead f k r ↔ LevelRead g k r
-  pub picture : (old new : List ℕ) (r : Decoded) → LevelDecoded f k old new r ↔ LevelDecoded g k old new r
+  pub picture : (order : ChannelOrder) (old new : List ℕ) (r : Decoded) → LevelDecoded order f k old new r ↔ LevelDecoded order g k old new r
   pub c-field : (field : ℕ) → levelField f k field ≡ levelField g k field
-  pub c-picture : (old new : List ℕ) (n : ℕ) → WroteLevel f k old new n ↔ WroteLevel g k old new n
+  pub c-picture : (order : ChannelOrder) (old new : List ℕ) (n : ℕ) → WroteLevel order f k old new n ↔ WroteLevel order g k old new n
 
 -- Two files that differ in KTX's type size, base format and key/value bytes alone.
 pub record SameButKeyValues (f g : List ℕ) : Type 0 where
@@ -91,17 +94,17 @@ pub record EachByItself : Type 0 where
   -- Level j has the same picture and the same refusals, and texels that differ in the block's rectangle alone.
   pub near : (f g : List ℕ) (j z : ℕ) → DamagedAt (startAt (levelsIn f) j) f g z
       → (pictureOf f j ≡ pictureOf g j) × ((room : ℕ) → decodeRefusal f j room ≡ decodeRefusal g j room)
-      × OnlyNear (pictureOf f j) (levelData f j) (levelData g j) z
+      × ((order : ChannelOrder) → OnlyNear (inOrder order (pictureOf f j)) (levelData f j) (levelData g j) z)
   -- At most 49 of its words change at 4bpp, 105 at 2bpp.
   pub few : (f g : List ℕ) (j z : ℕ) → DamagedAt (startAt (levelsIn f) j) f g z
-      → (old new old' new' : List ℕ) → LevelDecoded f j old new Done → LevelDecoded g j old' new' Done
+      → (order : ChannelOrder) (old new old' new' : List ℕ) → LevelDecoded order f j old new Done → LevelDecoded order g j old' new' Done
       → changed (pictureOf f j) new new' ≤ mostTouched (pictureOf f j .is2bpp)
 
--- Level 0 is the plate, as the program and `decode_ktx` have it: where both accept a file, both have the same texels.
+-- Level 0 is the plate, as the program, which is blue first, and `decode_ktx` have it: where both accept a file, both have the same texels.
 pub record FirstLevel (file : List ℕ) : Type 0 where
   pub plate : pictureOf file 0 ≡ program.plateOf file
   pub plate-data : levelData file 0 ≡ program.levelData file
-  pub by-ktx : (old new new' : List ℕ) → LevelDecoded file 0 old new Done → KtxDecoded file old new' KtxDone → new ≡ new'
-  pub by-program : (old new : List ℕ) → LevelDecoded file 0 old new Done → programRefusal file ≡ 0
+  pub by-ktx : (order : ChannelOrder) (old new new' : List ℕ) → LevelDecoded order file 0 old new Done → KtxDecoded order file old new' KtxDone → new ≡ new'
+  pub by-program : (old new : List ℕ) → LevelDecoded BlueFirst file 0 old new Done → programRefusal file ≡ 0
       → let p = program.plateOf file in (x y : ℕ) → x < p .width → y < p .height
       → u32At (output file) (18 + 4 * placeIn p x y) ≡ getD new (placeIn p x y) 0

@@ -1,3 +1,4 @@
+pub mod ChannelOrders
 pub mod Damage
 pub mod Footprint
 pub mod Idle

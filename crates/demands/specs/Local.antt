@@ -6,6 +6,7 @@ use mathlib.Core.List.{List, List·Memᴰ}
 use Prim.Native.Nat.{ℕ, _*_, _≤_, _<_}
 use lib.ListN.{length, getD}
 use Rattle.grid.specs.Grid.{blockWidth, Power}
+use Rattle.pixel.specs.declared.ChannelOrder.{ChannelOrder}
 use Rattle.texel.specs.Texel.{texelWord}
 use Rattle.demands.specs.Damage.{Spot, spot, damaged, Different}
 use Rattle.demands.specs.Footprint.{footprint, Rising, SameBlock, SameOutside}
@@ -25,7 +26,7 @@ pub record Whole (two : Bool) (gx gy w h : ℕ) : Type 0 where
   pub down : h ≡ gy * 4
 
 -- Block z can be told: two runs of the grid's length that differ in it alone, and whose texels differ wherever it is in the footprint.
-pub record Told (two : Bool) (gx gy z : ℕ) : Type 0 where
+pub record Told (order : ChannelOrder) (two : Bool) (gx gy z : ℕ) : Type 0 where
   pub one : List ℕ
   pub other : List ℕ
   pub one-size : length one ≡ 8 * (gx * gy)
@@ -33,10 +34,10 @@ pub record Told (two : Bool) (gx gy z : ℕ) : Type 0 where
   pub one-bytes : (k : ℕ) → getD one k 0 < 256
   pub other-bytes : (k : ℕ) → getD other k 0 < 256
   pub alone : SameOutside (gx * gy) one other z
-  pub differ : (x y : ℕ) → List·Memᴰ z (footprint two gx gy x y) → texelWord two gx gy one x y ≡ texelWord two gx gy other x y → ⊥
+  pub differ : (x y : ℕ) → List·Memᴰ z (footprint two gx gy x y) → texelWord order two gx gy one x y ≡ texelWord order two gx gy other x y → ⊥
 
--- Demand 3 for a picture of w by h texels whose grid is gx by gy.
-pub record Local (two : Bool) (gx gy w h : ℕ) : Type 0 where
+-- Demand 3 for a picture of w by h texels whose grid is gx by gy, in one order of channels for both runs.
+pub record Local (order : ChannelOrder) (two : Bool) (gx gy w h : ℕ) : Type 0 where
   -- A footprint has one to four blocks of the grid, ascending, each once.
   pub some : (x y : ℕ) → 1 ≤ length (footprint two gx gy x y)
   pub few : (x y : ℕ) → length (footprint two gx gy x y) ≤ 4
@@ -44,13 +45,13 @@ pub record Local (two : Bool) (gx gy w h : ℕ) : Type 0 where
   pub within : (x y z : ℕ) → List·Memᴰ z (footprint two gx gy x y) → z < gx * gy
   -- Two runs that agree on a texel's footprint give the same texel.
   pub enough : (x y : ℕ) (d d' : List ℕ) → ((z : ℕ) → List·Memᴰ z (footprint two gx gy x y) → SameBlock d d' z)
-      → texelWord two gx gy d x y ≡ texelWord two gx gy d' x y
+      → texelWord order two gx gy d x y ≡ texelWord order two gx gy d' x y
   -- For each block, two runs that differ in it alone give different texels wherever it is in the footprint.
-  pub needed : (z : ℕ) → z < gx * gy → Told two gx gy z
+  pub needed : (z : ℕ) → z < gx * gy → Told order two gx gy z
   -- Damage in block z changes no texel of the picture outside a rectangle of 49 texels at 4bpp, 105 at 2bpp.
   pub size : (z : ℕ) → length (damaged two gx gy z) ≡ cond two 105 49
   pub only : (z : ℕ) (d d' : List ℕ) → SameOutside (gx * gy) d d' z → (x y : ℕ) → x < w → y < h
-      → (texelWord two gx gy d x y ≡ texelWord two gx gy d' x y → ⊥) → List·Memᴰ (spot x y) (damaged two gx gy z)
+      → (texelWord order two gx gy d x y ≡ texelWord order two gx gy d' x y → ⊥) → List·Memᴰ (spot x y) (damaged two gx gy z)
   -- Nor is z in the footprint of a texel outside it.
   pub listed : (x y z : ℕ) → x < w → y < h → List·Memᴰ z (footprint two gx gy x y) → List·Memᴰ (spot x y) (damaged two gx gy z)
   -- And it is in that of each place of it.

@@ -12,6 +12,8 @@ use Rattle.ktx.specs.Header.{payloadOffset}
 use Rattle.ktx.specs.Picture as ktx
 use Rattle.ktx.specs.Picture.{pictureRefusal, KtxDecoded}
 use Rattle.ktx.specs.declared.Decoded.the-variants.{Done}
+use Rattle.pixel.specs.declared.ChannelOrder.{ChannelOrder}
+use Rattle.pvrtc.specs.Picture.{inOrder}
 use Rattle.pvrtc.specs.declared.Picture.{Picture}
 use Rattle.convert.specs.Output.{storedIn, plateOf, levelData, programRefusal, output}
 use Rattle.demands.specs.Damage.{spot}
@@ -34,13 +36,13 @@ changedIn p tga tga' = count (λ k. not (eqb (u32At tga (18 + 4 * k)) (u32At tga
 
 -- The damaged file has the same picture and the same refusals, and texels that differ in the rectangle alone.
 pub record LocalFiles : Type 0 where
-  -- A KTX file, decoded by `decode_ktx` or in C.
+  -- A KTX file, decoded by `decode_ktx` or in C, both times in one order.
   pub ktx-near : (f g : List ℕ) (z : ℕ) → DamagedAt (payloadOffset f) f g z
       → (ktx.plateOf f ≡ ktx.plateOf g) × ((room : ℕ) → pictureRefusal f room ≡ pictureRefusal g room)
-      × OnlyNear (ktx.plateOf f) (ktx.levelData f) (ktx.levelData g) z
+      × ((order : ChannelOrder) → OnlyNear (inOrder order (ktx.plateOf f)) (ktx.levelData f) (ktx.levelData g) z)
   -- At most 49 of its words change at 4bpp, 105 at 2bpp.
   pub ktx-count : (f g : List ℕ) (z : ℕ) → DamagedAt (payloadOffset f) f g z
-      → (old new old' new' : List ℕ) → KtxDecoded f old new Done → KtxDecoded g old' new' Done
+      → (order : ChannelOrder) (old new old' new' : List ℕ) → KtxDecoded order f old new Done → KtxDecoded order g old' new' Done
       → changed (ktx.plateOf f) new new' ≤ mostTouched (ktx.plateOf f .is2bpp)
   -- A file of either kind, as the program writes it.
   pub program-near : (f g : List ℕ) (z : ℕ) → DamagedAt (storedIn f .payload) f g z

@@ -11,8 +11,10 @@ use Rattle.grid.specs.Grid.{blockWidth}
 use Rattle.ktx.specs.Picture as ktx
 use Rattle.ktx.specs.Picture.{KtxDecoded}
 use Rattle.ktx.specs.declared.Decoded.the-variants.{Done as KtxDone}
+use Rattle.pixel.specs.declared.ChannelOrder.{ChannelOrder}
+use Rattle.pixel.specs.declared.ChannelOrder.the-variants.{BlueFirst}
 use Rattle.pvrtc.specs.Calls.{TexelRead, RowDecoded, BlockDecoded}
-use Rattle.pvrtc.specs.Picture.{picture, across, down, gridOf}
+use Rattle.pvrtc.specs.Picture.{picture, inOrder, across, down, gridOf}
 use Rattle.pvrtc.specs.Refusals.{zeroSide, notPower, decodedNumber, texelNumber}
 use Rattle.pvrtc.specs.declared.Decoded.{Decoded}
 use Rattle.pvrtc.specs.declared.Decoded.the-variants.{Done}
@@ -27,7 +29,7 @@ use Rattle.demands.specs.Samples.{redCorner}
 
 -- A picture in another mode.
 abbrev pub inMode : GridMode → Picture → Picture
-inMode mode p = picture (p .width) (p .height) (p .is2bpp) mode
+inMode mode p = picture (p .width) (p .height) (p .is2bpp) mode (p .order)
 
 -- Both modes have one grid.
 abbrev pub OneGrid : Picture → Type 0
@@ -54,13 +56,13 @@ pub record ModesAgree (p : Picture) (d : List ℕ) : Type 0 where
 -- Where both grids are equal the modes agree. A file, which is read in the stored mode, then has the picture of the Rust's.
 pub record OneGridOneAnswer : Type 0 where
   pub calls : (p : Picture) (d : List ℕ) → OneGrid p → ModesAgree p d
-  pub ktx : (file old new : List ℕ) → OneGrid (ktx.plateOf file) → KtxDecoded file old new KtxDone
-      → BlockDecoded (inMode Rust (ktx.plateOf file)) (ktx.levelData file) old new Done
+  pub ktx : (order : ChannelOrder) (file old new : List ℕ) → OneGrid (ktx.plateOf file) → KtxDecoded order file old new KtxDone
+      → BlockDecoded (inMode Rust (inOrder order (ktx.plateOf file))) (ktx.levelData file) old new Done
   pub program : (file : List ℕ) → OneGrid (plateOf file) → programRefusal file ≡ 0 → output file ≡ tga (inMode Rust (plateOf file)) (levelData file)
 
--- The picture that a picture's whole grid covers, in the Rust's mode: it has that grid.
+-- The picture that a picture's whole grid covers, in the Rust's mode and the same order: it has that grid.
 abbrev pub wholeOf : Picture → Picture
-wholeOf p = let g = gridOf p in picture (g .across * blockWidth (p .is2bpp)) (g .down * 4) (p .is2bpp) Rust
+wholeOf p = let g = gridOf p in picture (g .across * blockWidth (p .is2bpp)) (g .down * 4) (p .is2bpp) Rust (p .order)
 
 -- A picture in either mode is the upper left corner of that one, by whatever calls. So what the Rust decodes tells what a stored plate is.
 abbrev pub Corner : Type 0
@@ -68,7 +70,7 @@ Corner = (p : Picture) (d : List ℕ) (x y v w : ℕ) → Gives p d x y v → Gi
 
 -- A ruby mark: 4 × 4 texels at 4bpp.
 abbrev pub ruby : GridMode → Picture
-ruby mode = picture 4 4 false mode
+ruby mode = picture 4 4 false mode BlueFirst
 
 -- Four lent words, and the reds of four words.
 abbrev pub fourLent : List ℕ

@@ -14,6 +14,7 @@ use Rattle.ktx.specs.Picture as ktx
 use Rattle.ktx.specs.Picture.{KtxDecoded}
 use Rattle.ktx.specs.declared.Decoded.{Decoded as KtxAnswer}
 use Rattle.ktx.specs.declared.Header.{Header as KtxHeader}
+use Rattle.pixel.specs.declared.ChannelOrder.{ChannelOrder}
 use Rattle.pvrtc.specs.Refusals.{need}
 use Rattle.capi.specs.Ktx.{ktxField, WroteKtx}
 use Rattle.capi.specs.Plate.{headerField}
@@ -41,8 +42,8 @@ pub record NoEffect (f g : List ℕ) : Type 0 where
 pub record NoEffectKtx (f g : List ℕ) : Type 0 where
   pub header : (r : KtxHeader) → KtxHeaderRead f r ↔ KtxHeaderRead g r
   pub field : (k : ℕ) → ktxField f k ≡ ktxField g k
-  pub picture : (old new : List ℕ) (r : KtxAnswer) → KtxDecoded f old new r ↔ KtxDecoded g old new r
-  pub c-picture : (old new : List ℕ) (n : ℕ) → WroteKtx f old new n ↔ WroteKtx g old new n
+  pub picture : (order : ChannelOrder) (old new : List ℕ) (r : KtxAnswer) → KtxDecoded order f old new r ↔ KtxDecoded order g old new r
+  pub c-picture : (order : ChannelOrder) (old new : List ℕ) (n : ℕ) → WroteKtx order f old new n ↔ WroteKtx order g old new n
   pub program : isKtx f ≡ true → SameProgram f g
 
 -- So it is for every two such files.
@@ -57,6 +58,6 @@ pub record LaterUnread : Type 0 where
   pub ktx-header : (file more : List ℕ) → payloadOffset file ≤ length file
       → (r : KtxHeader) → KtxHeaderRead file r ↔ KtxHeaderRead (file ++ more) r
   pub ktx-picture : (file more : List ℕ) → payloadOffset file + need (ktx.plateOf file) ≤ length file
-      → (old new : List ℕ) (r : KtxAnswer) → KtxDecoded file old new r ↔ KtxDecoded (file ++ more) old new r
+      → (order : ChannelOrder) (old new : List ℕ) (r : KtxAnswer) → KtxDecoded order file old new r ↔ KtxDecoded order (file ++ more) old new r
   pub c-picture : (file more : List ℕ) → payloadOffset file + need (ktx.plateOf file) ≤ length file
-      → (old new : List ℕ) (n : ℕ) → WroteKtx file old new n ↔ WroteKtx (file ++ more) old new n
+      → (order : ChannelOrder) (old new : List ℕ) (n : ℕ) → WroteKtx order file old new n ↔ WroteKtx order (file ++ more) old new n

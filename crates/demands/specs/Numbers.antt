@@ -8,6 +8,7 @@ use lib.ListN.{length}
 use Rattle.facts.specs.Tab.{tab}
 use Rattle.grid.specs.Grid.{blockWidth, blocks, blockAddress}
 use Rattle.word.specs.Word.{blueA, blueB, weight2bpp}
+use Rattle.pixel.specs.declared.ChannelOrder.the-variants.{BlueFirst}
 use Rattle.texel.specs.Texel.{blended, mean2, mean4, texelWord}
 use Rattle.demands.specs.Footprint.{footprint}
 use Rattle.demands.specs.Samples.{block, redBlack}
@@ -32,7 +33,7 @@ agrees l = same (l .made) (l .paper)
 
 -- The texel (x, y) of a picture of w by h texels.
 abbrev texel : Bool → ℕ → ℕ → List ℕ → ℕ → ℕ → ℕ
-texel two w h d x y = texelWord two (blocks (blockWidth two) w) (blocks 4 h) d x y
+texel two w h d x y = texelWord BlueFirst two (blocks (blockWidth two) w) (blocks 4 h) d x y
 
 -- How many blocks its footprint has.
 abbrev blocksFor : Bool → ℕ → ℕ → ℕ → ℕ → ℕ

@@ -1,4 +1,4 @@
--- Demand 2, over every call and the program: each texel is the one that Khronos describes. Assumes nothing: these are definitions.
+-- Demand 2, over every call and the program: each texel is the one that Khronos describes, in either order of channels. Assumes nothing: these are definitions.
 use mathlib.Core.Path.{_≡_}
 use mathlib.Core.List.{List}
 use Prim.Native.Nat.{ℕ, _+_, _*_, _<_}
@@ -11,6 +11,7 @@ use Rattle.ktx.specs.Picture as ktx
 use Rattle.ktx.specs.Picture.{KtxDecoded}
 use Rattle.ktx.specs.declared.Decoded.the-variants.{Done as KtxDone}
 use Rattle.pvrtc.specs.Calls.{TexelRead, RowDecoded, BlockDecoded}
+use Rattle.pvrtc.specs.Picture.{inOrder}
 use Rattle.pvrtc.specs.declared.Decoded.the-variants.{Done}
 use Rattle.pvrtc.specs.declared.GridMode.{GridMode}
 use Rattle.pvrtc.specs.declared.GridMode.the-variants.{Rust, Stored}
@@ -41,16 +42,16 @@ pub data Gives (p : Picture) (d : List ℕ) (x y v : ℕ) : Type 0 where
   by-c-row : (old new : List ℕ) → WroteRow p d y old new 0 → x < p .width → v ≡ getD new x 0 → Gives p d x y v
   by-c-picture : (old new : List ℕ) → WrotePicture p d old new 0 → x < p .width → y < p .height → v ≡ getD new (placeIn p x y) 0 → Gives p d x y v
   -- The call on a KTX file lays it at word y × width + x, and so in C.
-  by-ktx : (file old new : List ℕ) → ktx.plateOf file ≡ p → ktx.levelData file ≡ d → KtxDecoded file old new KtxDone
+  by-ktx : (file old new : List ℕ) → inOrder (p .order) (ktx.plateOf file) ≡ p → ktx.levelData file ≡ d → KtxDecoded (p .order) file old new KtxDone
       → x < p .width → y < p .height → v ≡ getD new (placeIn p x y) 0 → Gives p d x y v
-  by-c-ktx : (file old new : List ℕ) → ktx.plateOf file ≡ p → ktx.levelData file ≡ d → WroteKtx file old new 0 → x < p .width → y < p .height
-      → v ≡ getD new (placeIn p x y) 0 → Gives p d x y v
+  by-c-ktx : (file old new : List ℕ) → inOrder (p .order) (ktx.plateOf file) ≡ p → ktx.levelData file ≡ d → WroteKtx (p .order) file old new 0
+      → x < p .width → y < p .height → v ≡ getD new (placeIn p x y) 0 → Gives p d x y v
   -- The call on a level of a file of either kind likewise, and so in C.
-  by-level : (file : List ℕ) (k : ℕ) (old new : List ℕ) → level.pictureOf file k ≡ p → level.levelData file k ≡ d
-      → LevelDecoded file k old new LevelDone → x < p .width → y < p .height → v ≡ getD new (placeIn p x y) 0 → Gives p d x y v
-  by-c-level : (file : List ℕ) (k : ℕ) (old new : List ℕ) → level.pictureOf file k ≡ p → level.levelData file k ≡ d
-      → WroteLevel file k old new 0 → x < p .width → y < p .height → v ≡ getD new (placeIn p x y) 0 → Gives p d x y v
-  -- The program writes it for a file of either kind, behind the 18 bytes of the header.
+  by-level : (file : List ℕ) (k : ℕ) (old new : List ℕ) → inOrder (p .order) (level.pictureOf file k) ≡ p → level.levelData file k ≡ d
+      → LevelDecoded (p .order) file k old new LevelDone → x < p .width → y < p .height → v ≡ getD new (placeIn p x y) 0 → Gives p d x y v
+  by-c-level : (file : List ℕ) (k : ℕ) (old new : List ℕ) → inOrder (p .order) (level.pictureOf file k) ≡ p → level.levelData file k ≡ d
+      → WroteLevel (p .order) file k old new 0 → x < p .width → y < p .height → v ≡ getD new (placeIn p x y) 0 → Gives p d x y v
+  -- The program writes it for a file of either kind, blue first, behind the 18 bytes of the header.
   by-program : (file : List ℕ) → plateOf file ≡ p → levelData file ≡ d → programRefusal file ≡ 0 → x < p .width → y < p .height
       → v ≡ u32At (output file) (18 + 4 * placeIn p x y) → Gives p d x y v
 
@@ -59,12 +60,12 @@ abbrev pub khronosSide : GridMode → (size side : ℕ) → ℕ
 khronosSide Rust size side = blocksAlong size side
 khronosSide Stored size side = storedAlong size side
 
--- The word that Khronos describes at texel (x, y) of a picture, over the grid of its mode.
+-- The word that Khronos describes at texel (x, y) of a picture, over the grid of its mode and in its order.
 abbrev pub khronosWord : Picture → List ℕ → ℕ → ℕ → ℕ
 khronosWord p d x y =
     let gx = khronosSide (p .mode) (2 * halfBlock (p .is2bpp)) (p .width) in
     let gy = khronosSide (p .mode) 4 (p .height) in
-    word32 (khronosPicture (p .is2bpp) gx gy d x y)
+    word32 (p .order) (khronosPicture (p .is2bpp) gx gy d x y)
 
 -- Whatever call gives it, a texel is Khronos's; so all calls agree.
 abbrev pub Right : Type 0

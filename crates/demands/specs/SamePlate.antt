@@ -10,7 +10,9 @@ use Rattle.ktx.specs.Header as ktx
 use Rattle.ktx.specs.Header.{isKtx}
 use Rattle.ktx.specs.Inner.{calledAs}
 use Rattle.ktx.specs.Picture.{KtxDecoded}
+use Rattle.pixel.specs.declared.ChannelOrder.{ChannelOrder}
 use Rattle.pvrtc.specs.Calls.{BlockDecoded}
+use Rattle.pvrtc.specs.Picture.{inOrder}
 use Rattle.pvrtc.specs.Refusals.{need}
 use Rattle.pvrtc.specs.declared.Decoded.{Decoded}
 use Rattle.convert.specs.Output.{plateOf, levelData, skippedLimit, output}
@@ -30,7 +32,8 @@ pub record SamePlate (f g : List ℕ) : Type 0 where
   pub ktx-data : need (plateOf f) ≤ length (levelData g)
   pub payload : (i : ℕ) → i < need (plateOf f) → getD (levelData f) i 0 ≡ getD (levelData g) i 0
 
--- They give the same TGA, or the same refusal; and decoding g answers and writes what the block call does on f's data.
+-- They give the same TGA, or the same refusal; and in either order decoding g answers and writes what the block call does on f's data.
 pub record SameAnswers (f g : List ℕ) : Type 0 where
   pub written : output f ≡ output g
-  pub picture : (old new : List ℕ) (r : Decoded) → BlockDecoded (plateOf f) (levelData f) old new r ↔ KtxDecoded g old new (calledAs r)
+  pub picture : (order : ChannelOrder) (old new : List ℕ) (r : Decoded)
+      → BlockDecoded (inOrder order (plateOf f)) (levelData f) old new r ↔ KtxDecoded order g old new (calledAs r)

@@ -7,8 +7,9 @@ use Prim.Native.Nat.{ℕ, _+_, _*_, _/_, _%_, _≤_, _<_}
 use lib.ListN.{length, drop}
 use Rattle.facts.specs.Checks.{Check, Given}
 use Rattle.facts.specs.Tab.{tab}
+use Rattle.pixel.specs.declared.ChannelOrder.{ChannelOrder}
 use Rattle.pvrtc.specs.Calls.{TexelRead, RowDecoded, BlockDecoded}
-use Rattle.pvrtc.specs.Picture.{pictureTexel}
+use Rattle.pvrtc.specs.Picture.{inOrder, pictureTexel}
 use Rattle.pvrtc.specs.Refusals.{need, checks, decodedNumber, texelNumber, texelValue}
 use Rattle.pvrtc.specs.declared.Call.the-variants as call
 use Rattle.pvrtc.specs.declared.Decoded.{Decoded}
@@ -41,11 +42,11 @@ pub record OneOutcome : Type 0 where
       → BlockDecoded p d old new r → BlockDecoded p d old new' s → (r ≡ s) × (new ≡ new')
   pub pvr-header : (file : List ℕ) (r s : PvrHeader) → PvrHeaderRead file r → PvrHeaderRead file s → r ≡ s
   pub ktx-header : (file : List ℕ) (r s : KtxHeader) → KtxHeaderRead file r → KtxHeaderRead file s → r ≡ s
-  pub ktx-picture : (file old new new' : List ℕ) (r s : KtxAnswer)
-      → KtxDecoded file old new r → KtxDecoded file old new' s → (r ≡ s) × (new ≡ new')
+  pub ktx-picture : (order : ChannelOrder) (file old new new' : List ℕ) (r s : KtxAnswer)
+      → KtxDecoded order file old new r → KtxDecoded order file old new' s → (r ≡ s) × (new ≡ new')
   pub level : (file : List ℕ) (k : ℕ) (r s : Described) → LevelRead file k r → LevelRead file k s → r ≡ s
-  pub level-picture : (file : List ℕ) (k : ℕ) (old new new' : List ℕ) (r s : LevelAnswer)
-      → LevelDecoded file k old new r → LevelDecoded file k old new' s → (r ≡ s) × (new ≡ new')
+  pub level-picture : (order : ChannelOrder) (file : List ℕ) (k : ℕ) (old new new' : List ℕ) (r s : LevelAnswer)
+      → LevelDecoded order file k old new r → LevelDecoded order file k old new' s → (r ≡ s) × (new ≡ new')
 
 -- What a texel call with these checks says by its number n and its word v.
 pub record TexelOutcome (l : List Check) (texel n v : ℕ) : Type 0 where
@@ -97,27 +98,27 @@ pub record TotalFile (file : List ℕ) : Type 0 where
   pub refused : 0 < programRefusal file → output file ≡ refusedLine (programRefusal file)
   pub done : programRefusal file ≡ 0 → output file ≡ tga (plateOf file) (levelData file)
 
--- A file read as KTX's: its header and its picture, and both in C.
+-- A file read as KTX's: its header and its picture in either order, and both in C.
 pub record TotalKtx (file : List ℕ) : Type 0 where
   -- A number is given exactly when its condition holds and no earlier one does.
   pub header : (r : KtxHeader) → KtxHeaderRead file r → (n : ℕ) → 0 < n → (ktx.headerNumber r ≡ n) ↔ Given (ktx.headerChecks file) n
   pub c-header : (n : ℕ) → 0 < n → (ktxField file 0 ≡ n) ↔ Given (ktx.headerChecks file) n
   -- A refusal changes no lent word, and success writes the texels in front.
-  pub picture : (old new : List ℕ) (r : KtxAnswer) → KtxDecoded file old new r
-      → WordsOutcome (pictureChecks file (length old)) (pictureTexels (ktxPlateOf file) (ktxData file)) old new (ktxNumber r)
-  pub c-picture : (old new : List ℕ) (n : ℕ) → WroteKtx file old new n
-      → WordsOutcome (pictureChecks file (length old)) (pictureTexels (ktxPlateOf file) (ktxData file)) old new n
+  pub picture : (order : ChannelOrder) (old new : List ℕ) (r : KtxAnswer) → KtxDecoded order file old new r
+      → WordsOutcome (pictureChecks file (length old)) (pictureTexels (inOrder order (ktxPlateOf file)) (ktxData file)) old new (ktxNumber r)
+  pub c-picture : (order : ChannelOrder) (old new : List ℕ) (n : ℕ) → WroteKtx order file old new n
+      → WordsOutcome (pictureChecks file (length old)) (pictureTexels (inOrder order (ktxPlateOf file)) (ktxData file)) old new n
 
--- Level k of a file: its description and its picture, and both in C.
+-- Level k of a file: its description and its picture in either order, and both in C.
 pub record TotalLevel (file : List ℕ) (k : ℕ) : Type 0 where
   -- A number is given exactly when its condition holds and no earlier one does.
   pub description : (r : Described) → LevelRead file k r → (n : ℕ) → 0 < n → (describedNumber r ≡ n) ↔ Given (levelChecks file k) n
   pub c-description : (n : ℕ) → 0 < n → (levelField file k 0 ≡ n) ↔ Given (levelChecks file k) n
   -- A refusal changes no lent word, and success writes the texels in front.
-  pub picture : (old new : List ℕ) (r : LevelAnswer) → LevelDecoded file k old new r
-      → WordsOutcome (decodeChecks file k (length old)) (pictureTexels (pictureOf file k) (dataOfLevel file k)) old new (levelNumber r)
-  pub c-picture : (old new : List ℕ) (n : ℕ) → WroteLevel file k old new n
-      → WordsOutcome (decodeChecks file k (length old)) (pictureTexels (pictureOf file k) (dataOfLevel file k)) old new n
+  pub picture : (order : ChannelOrder) (old new : List ℕ) (r : LevelAnswer) → LevelDecoded order file k old new r
+      → WordsOutcome (decodeChecks file k (length old)) (pictureTexels (inOrder order (pictureOf file k)) (dataOfLevel file k)) old new (levelNumber r)
+  pub c-picture : (order : ChannelOrder) (old new : List ℕ) (n : ℕ) → WroteLevel order file k old new n
+      → WordsOutcome (decodeChecks file k (length old)) (pictureTexels (inOrder order (pictureOf file k)) (dataOfLevel file k)) old new n
 
 -- Data past 8n bytes has no effect: an outcome is right for d exactly when it is for d followed by anything.
 pub record PastUnread (p : Picture) (d more : List ℕ) : Type 0 where
