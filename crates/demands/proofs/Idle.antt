@@ -118,7 +118,8 @@ no-idling two mode order =
             s .red,
             s .black,
           );
-      row-varies = λ v new w one. omega (arith, one (half two) (omega arith), one (3 * half two) wide, row-red two mode order s low w, row-black two mode order s low w);
+      row-varies = λ v new w one.
+          omega (arith, one (half two) (omega arith), one (3 * half two) wide, row-red two mode order s low w, row-black two mode order s low w);
       block-varies = λ v new w one.
           omega (
             arith,
@@ -140,8 +141,10 @@ no-idling two mode order =
             again (3 * half two) 2 wide (omega arith),
             ap (λ (k : ℕ). getD new (2 * (2 * blockWidth two) + k) 0) middle,
           );
-      block-goes-down = λ new w again. omega (arith, upper-red two mode order s low w, lower-black two mode order s low w, again (half two) 6 (omega arith) (omega arith));
-      rows-differ = λ new w again. omega (arith, upper-red two mode order s low w, edge-half two mode order s low w, again (half two) 2 (omega arith) (omega arith));
+      block-goes-down = λ new w again.
+          omega (arith, upper-red two mode order s low w, lower-black two mode order s low w, again (half two) 6 (omega arith) (omega arith));
+      rows-differ = λ new w again.
+          omega (arith, upper-red two mode order s low w, edge-half two mode order s low w, again (half two) 2 (omega arith) (omega arith));
     }
   where
     -- the middle of the second block is that of the first, a block further

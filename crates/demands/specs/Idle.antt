@@ -64,7 +64,8 @@ pub record NoIdling (two : Bool) (mode : GridMode) (order : ChannelOrder) : Type
   pub texel-varies : (v : ℕ) → TexelRead (beside2 two mode order) redCorner (half two) 2 (Word v)
       → TexelRead (beside2 two mode order) redCorner (3 * half two) 2 (Word v) → ⊥
   pub row-varies : (v : ℕ) (new : List ℕ) → RowDecoded (beside2 two mode order) redCorner 2 (lentRow two) new Done → OneColour (2 * blockWidth two) v new → ⊥
-  pub block-varies : (v : ℕ) (new : List ℕ) → BlockDecoded (beside2 two mode order) redCorner (lentImage two) new Done → OneColour (8 * blockWidth two) v new → ⊥
+  pub block-varies : (v : ℕ) (new : List ℕ) → BlockDecoded (beside2 two mode order) redCorner (lentImage two) new Done
+      → OneColour (8 * blockWidth two) v new → ⊥
   -- It writes nothing and reports success.
   pub row-written : RowDecoded (beside2 two mode order) redCorner 2 (lentRow two) (lentRow two) Done → ⊥
   pub block-written : BlockDecoded (beside2 two mode order) redCorner (lentImage two) (lentImage two) Done → ⊥

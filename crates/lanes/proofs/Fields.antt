@@ -108,8 +108,12 @@ module _ (order : ChannelOrder) (c b b' : ℕ) (hb : b < 32) (hb' : b' < 32) {f 
       (blue-is b g r hb (omega arith) (omega arith), green-is b g r hb (omega arith) (omega arith), red-is b g r hb (omega arith) (omega arith), refl)
   are false =
       let g = c / 16 % 16 * 2 + c / 128 % 2 in
-      let r = c / 256 % 16 * 2 + c / 2048 % 2 in
-      (blue-is b' g r hb' (omega arith) (omega arith), green-is b' g r hb' (omega arith) (omega arith), red-is b' g r hb' (omega arith) (omega arith), omega arith)
+      let r = c / 256 % 16 * 2 + c / 2048 % 2 in (
+        blue-is b' g r hb' (omega arith) (omega arith),
+        green-is b' g r hb' (omega arith) (omega arith),
+        red-is b' g r hb' (omega arith) (omega arith),
+        omega arith,
+      )
 
   pub color-lanes : {r : ℕ} → r ≡ channelLanes order (f % 32) (f / 32 % 32) (f / 1024) a → r ≡ colorLanes order (colorOf c (cond (opaque c) b b'))
   color-lanes er =

@@ -1,14 +1,11 @@
 -- Colours as lanes, as the code reads them. Assumes nothing.
 use mathlib.Core.Path.{_≡_, refl, sym, ap, ap₂, _∙_}
-use mathlib.Core.Bool.{Bool, true, false, cond}
+use mathlib.Core.Bool.{true}
 use mathlib.Core.List.{List, [], _∷_}
-use Prim.Native.Nat.{ℕ, zero, suc, _+_, _-_, _*_, _/_, _%_, _<_, _≤_}
-use native.Mathlib.Nat.{div-div-eq-div-mul}
+use Prim.Native.Nat.{ℕ, _+_, _*_, _<_, _≤_}
 use native.Mathlib.Omega.{arith}
-use lib.Dec.{eqb}
 use lib.ListN.{getD}
 use lib.Seq.{getD-drop}
-use Rattle.facts.proofs.Numbers.{cond-le}
 use Rattle.facts.proofs.Tab.{getD-tab}
 use Rattle.facts.specs.Tab.{tab}
 use Rattle.pixel.specs.declared.ChannelOrder.{ChannelOrder}
@@ -81,7 +78,8 @@ module _ (order : ChannelOrder) (d : List ℕ) (above own below : ℕ) where
         b = rows-small _ _ _ (b-le order d above) (b-le order d own) (b-le order d below);
       }
 
-  pub summed-is : {x y z u v w : ℕ} → x ≡ lanesA order d above → y ≡ lanesA order d own → z ≡ lanesA order d below → u ≡ lanesB order d above → v ≡ lanesB order d own → w ≡ lanesB order d below
+  pub summed-is : {x y z u v w : ℕ} → x ≡ lanesA order d above → y ≡ lanesA order d own → z ≡ lanesA order d below
+      → u ≡ lanesB order d above → v ≡ lanesB order d own → w ≡ lanesB order d below
       → let k : Column = record {
         a = (2 * x + 2 * y) ∷ (x + 3 * y) ∷ (4 * y) ∷ (3 * y + z) ∷ [];
         b = (2 * u + 2 * v) ∷ (u + 3 * v) ∷ (4 * v) ∷ (3 * v + w) ∷ [];

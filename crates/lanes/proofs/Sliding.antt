@@ -59,7 +59,8 @@ pub record Window4bpp (order : ChannelOrder) (g : Grid) (by : ℕ) (d : List ℕ
   pub own : SeenColumn g by d order bx 1 o
   pub codes : SeenCodes g by d bx 1 k
 
-pub record Window2bpp (order : ChannelOrder) (g : Grid) (by : ℕ) (d : List ℕ) (row : RowAddresses) (bx : ℕ) (l o : Column) (wl wo : Weights) (q : ℕ) : Type 0 where
+pub record Window2bpp (order : ChannelOrder) (g : Grid) (by : ℕ) (d : List ℕ) (row : RowAddresses) (bx : ℕ)
+    (l o : Column) (wl wo : Weights) (q : ℕ) : Type 0 where
   pub left : SeenColumn g by d order bx 0 l
   pub own : SeenColumn g by d order bx 1 o
   pub left-weights : SeenWeights g by d bx 0 wl

@@ -77,7 +77,8 @@ module _ (order : ChannelOrder) (two : Bool) (d : List ℕ) (z : ℕ → ℕ →
     -- a texel of the window, where the weight and what is kept are the definition's
     pub window-texel : (w keep : ℕ) → w ≡ filled (half two) (ruleAt (nineAt 1 1) x y) nineAt (x + blockWidth two) (y + 4)
         → keep ≡ cond (punched (half two) (nineAt 1 1) x y) clear bytes
-        → texelLanes (half two) (acrossA (half two) (windowSums y) x) (acrossB (half two) (windowSums y) x) w keep ≡ packed order (texelIn (half two) nineAt x y)
+        → texelLanes (half two) (acrossA (half two) (windowSums y) x) (acrossB (half two) (windowSums y) x) w keep
+        ≡ packed order (texelIn (half two) nineAt x y)
     unfolding texelIn mixed sumsTo nineSum
     window-texel w keep ew ek =
         let rule = ruleAt (nineAt 1 1) x y in

@@ -1,6 +1,5 @@
 // Colours as lanes, and the three words of a column, summed downwards.
 use crate::Column;
-use pixel::ChannelOrder;
 ghost use mathlib.Core.Bool.{cond};
 ghost use mathlib.Core.Path.{_≡_};
 ghost use Prim.Native.Nat.{_+_, _*_, _/_, _%_, _<_, _≤_};
@@ -9,6 +8,7 @@ ghost use lib.ListN.{length, getD};
 ghost use Rattle.word.specs.Word.{colorOf, blueA, blueB};
 ghost use Rattle.lanes.specs.Lanes.{bytes, channelLanes, colorLanes, widened, spreadOf, fitted, mixedLanes, shared, Mask};
 ghost use Rattle.lanes.specs.Column.{lanesA, lanesB, columnOf, most, SmallColumn};
+use pixel::ChannelOrder;
 
 const BYTES: u64 = 0x00ff00ff00ff00ff;
 

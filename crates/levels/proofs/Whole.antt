@@ -212,7 +212,9 @@ module _ (file : List ℕ) (k : ℕ) where
   pub as-block : {order : ChannelOrder} {old new : List ℕ} → LevelDecoded order file k old new decoded.Done
       → BlockDecoded (inOrder order (pictureOf file k)) (levelData file k) old new called.Done
   as-block {order} {old} a =
-      let speaks = call-decides (level-accepted (length old) (sym (a .number))) (length old) ∙ sym (refusal-in order (pictureOf file k) (Block (length old)) (levelData file k)) in
+      let room = length old in
+      let speaks =
+      call-decides (level-accepted room (sym (a .number))) room ∙ sym (refusal-in order (pictureOf file k) (Block room) (levelData file k)) in
       record { number = a .number ∙ speaks; words = rw (← speaks) (a .words) }
 
   -- from a description to the level's picture

@@ -38,8 +38,8 @@ pub record Answered (n : ℕ) (level : Level) (r : Described) : Type 0 where
 abbrev pub LevelRead : List ℕ → ℕ → Described → Type 0
 LevelRead file k r = Answered (levelRefusal file k) (levelOf file k) r
 
--- Decoding it in an order of channels: its number, and the lent words afterwards. Where the number is 0, texel (x, y) of the level stands at word y × width + x and
--- later words are as they were; else all are.
+-- Decoding it in an order of channels: its number, and the lent words afterwards. Where the number is 0, texel (x, y) of the level stands at
+-- word y × width + x and later words are as they were; else all are.
 pub record LevelDecoded (order : ChannelOrder) (file : List ℕ) (k : ℕ) (old new : List ℕ) (r : Decoded) : Type 0 where
   pub number : decodedNumber r ≡ decodeRefusal file k (length old)
   pub words : new

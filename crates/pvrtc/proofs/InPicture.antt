@@ -60,7 +60,8 @@ module _ (order : ChannelOrder) (g : Grid) (d : List ℕ) (bx by : ℕ) where
       e ∙ painted-same (part .start) (part .stride) (part .width) (part .height) _ _ old (fits .apart) same
     where
       same : (x y : ℕ) → x < part .width → y < part .height → getD buffer (y * bw + x) 0 ≡ gridTexel order g d (bx * width + x) (by * 4 + y)
-      same x y hx hy = rw (eb, en, ew) (in-buffer order (g .is2bpp) (nineAbout g d bx by) x y (omega arith) (omega arith) ∙ of-block x y (omega arith) (omega arith))
+      same x y hx hy =
+          rw (eb, en, ew) (in-buffer order (g .is2bpp) (nineAbout g d bx by) x y (omega arith) (omega arith) ∙ of-block x y (omega arith) (omega arith))
 
 -- an accepted picture, with its grid, its sheet and how many rows of blocks cover it
 pub record Going (p : Picture) (d old : List ℕ) (g : Grid) (s : Sheet) (n : ℕ) : Type 0 where
@@ -106,7 +107,8 @@ module _ {p : Picture} {d old : List ℕ} {g : Grid} {s : Sheet} {n : ℕ} (k : 
       -- and is then laid
       pub row-laid : {img new : List ℕ} → RowsLaid s 4 (gridTexel (p .order) g d) old by img → new ≡ withBlockRow (p .order) g by row d img
           → RowsLaid s 4 (gridTexel (p .order) g d) old (by + 1) new
-      row-laid laid q = next-row s 4 (gridTexel (p .order) g d) old sheet-fits by (λ x y. gridTexel (p .order) g d x (by * 4 + y)) q starts er (λ x y hx hy. refl) laid
+      row-laid laid q =
+          next-row s 4 (gridTexel (p .order) g d) old sheet-fits by (λ x y. gridTexel (p .order) g d x (by * 4 + y)) q starts er (λ x y hx hy. refl) laid
 
   -- all of them are the picture
   pub all-laid : (by : ℕ) {img : List ℕ} → by ≡ n → RowsLaid s 4 (gridTexel (p .order) g d) old by img → img ≡ onSheet (sheetOf p) (pictureTexel p d) old

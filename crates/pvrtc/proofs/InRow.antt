@@ -150,7 +150,8 @@ module _ (order : ChannelOrder) (g : Grid) (d : List ℕ) (y x : ℕ) where
       }
 
   -- any other column: they stay
-  pub held-later : {nine : List PVRTCTexelInfo} {texels : List ℕ} → (x % blockWidth (g .is2bpp) ≡ 0 → ⊥) → Before order g d y x nine texels → Held order g d y x nine texels
+  pub held-later : {nine : List PVRTCTexelInfo} {texels : List ℕ} → (x % blockWidth (g .is2bpp) ≡ 0 → ⊥) → Before order g d y x nine texels
+      → Held order g d y x nine texels
   held-later n b =
       let i = in-block (g .is2bpp) x n in
       record { words = b .words ∙ ap (λ (q : ℕ). rowWords g d q (y / 4) (y % 4)) (here (i .0) ∙ i .1); known = b .known n; long = b .long }
@@ -159,10 +160,12 @@ module _ (order : ChannelOrder) (g : Grid) (d : List ℕ) (y x : ℕ) where
       here l = rw (ne-eqb x 0 (λ e. omega arith))
 
   -- the texel
-  pub held-texel : {nine : List PVRTCTexelInfo} {texels : List ℕ} → Held order g d y x nine texels → getD texels (x % blockWidth (g .is2bpp)) 0 ≡ gridTexel order g d x y
+  pub held-texel : {nine : List PVRTCTexelInfo} {texels : List ℕ} → Held order g d y x nine texels
+      → getD texels (x % blockWidth (g .is2bpp)) 0 ≡ gridTexel order g d x y
   held-texel h =
       h .known (x % blockWidth (g .is2bpp)) (mod-lt x (wide (g .is2bpp)))
-      ∙ ap (λ (n : List PVRTCTexelInfo). packed order (texelIn (half (g .is2bpp)) (nineOf n) (x % blockWidth (g .is2bpp)) (y % 4))) (h .words) ∙ texel-of-row order g d x y
+      ∙ ap (λ (n : List PVRTCTexelInfo). packed order (texelIn (half (g .is2bpp)) (nineOf n) (x % blockWidth (g .is2bpp)) (y % 4))) (h .words)
+      ∙ texel-of-row order g d x y
 
   -- and on to the next column
   pub held-next : {nine : List PVRTCTexelInfo} {texels : List ℕ} → Held order g d y x nine texels → Before order g d y (x + 1) nine texels
@@ -172,6 +175,7 @@ module _ (order : ChannelOrder) (g : Grid) (d : List ℕ) (y x : ℕ) where
       on = let e : x + 1 - 1 ≡ x = omega arith in sym (rw (ne-eqb (x + 1) 0 (λ e. omega arith)) (ap (λ (n : ℕ). n / blockWidth (g .is2bpp)) e))
 
 -- and so the texel of the picture whose grid it is
-pub held-picture : (p : Picture) {g : Grid} (d : List ℕ) (y x : ℕ) {nine : List PVRTCTexelInfo} {texels : List ℕ} → g ≡ gridOf p → Held (p .order) g d y x nine texels
+pub held-picture : (p : Picture) {g : Grid} (d : List ℕ) (y x : ℕ) {nine : List PVRTCTexelInfo} {texels : List ℕ} → g ≡ gridOf p
+    → Held (p .order) g d y x nine texels
     → getD texels (x % blockWidth (p .is2bpp)) 0 ≡ pictureTexel p d x y
 held-picture p {g} d y x e h = rw e at (held-texel (p .order) g d y x h)

@@ -210,7 +210,8 @@ weights-low two nine read =
 pub with-texels : (order : ChannelOrder) (two : Bool) (nine : List PVRTCTexelInfo) (px py count : ℕ) (old : List ℕ) {weights : List (List ℕ)} {row new : List ℕ}
     {window : Window} {own : PVRTCTexelInfo}
     → px + count ≤ blockWidth two → py < 4 → weights ≡ weightsOf nine → row ≡ shares 2 py → window ≡ windowOf (nineOf nine) row → own ≡ nineOf nine 1 1
-    → new ≡ tab (λ i. packed order (texelBy (half two) weights own window (px + i) py)) count ++ drop count old → new ≡ withTexels order two nine px py count old
+    → new ≡ tab (λ i. packed order (texelBy (half two) weights own window (px + i) py)) count ++ drop count old
+    → new ≡ withTexels order two nine px py count old
 unfolding withTexels
 with-texels order two nine px py count old lx ly ew er ei eo e =
     e
@@ -221,8 +222,10 @@ with-texels order two nine px py count old lx ly ew er ei eo e =
     (λ i l. ap (packed order) (by-window two nine (px + i) py (omega arith) ly))))
 
 -- the first of them
-pub first-texel : (order : ChannelOrder) (two : Bool) (nine : List PVRTCTexelInfo) (px py : ℕ) (old : List ℕ) {new : List ℕ} → new ≡ withTexels order two nine px py 1 old
+pub first-texel : (order : ChannelOrder) (two : Bool) (nine : List PVRTCTexelInfo) (px py : ℕ) (old : List ℕ) {new : List ℕ}
+    → new ≡ withTexels order two nine px py 1 old
     → getD new 0 0 ≡ packed order (texelIn (half two) (nineOf nine) px py)
 unfolding withTexels
 first-texel order two nine px py old e =
-    ap (λ (l : List ℕ). getD l 0 0) e ∙ tab-front (λ i. packed order (texelIn (half two) (nineOf nine) (px + i) py)) 1 0 (drop 1 old) 0 (omega arith) ∙ rw (add-zero px)
+    ap (λ (l : List ℕ). getD l 0 0) e
+    ∙ tab-front (λ i. packed order (texelIn (half two) (nineOf nine) (px + i) py)) 1 0 (drop 1 old) 0 (omega arith) ∙ rw (add-zero px)

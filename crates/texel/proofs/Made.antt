@@ -26,7 +26,8 @@ module _ (order : ChannelOrder) (s t : PVRTCTexelColorInt) (w : ℕ) {p : Bool} 
       → a ≡ blended (s .a) (t .a) w → x ≡ packed order (record { r = r; g = g; b = b; a = a }) → x ≡ packed order (blend (pixel s) (pixel t) w p)
   whole ep er eg eb ea ex = cc
 
-pub texel : (order : ChannelOrder) (two : Bool) (weights : List (List ℕ)) (own : PVRTCTexelInfo) (window : Window) (px py : ℕ) {row : List ℕ} {sa sb a b : PVRTCTexelColorInt} {w x : ℕ} {p : Bool}
+pub texel : (order : ChannelOrder) (two : Bool) (weights : List (List ℕ)) (own : PVRTCTexelInfo) (window : Window) (px py : ℕ)
+    {row : List ℕ} {sa sb a b : PVRTCTexelColorInt} {w x : ℕ} {p : Bool}
     → row ≡ shares (half two) px → sa ≡ acrossOf (window .a) row → a ≡ toBytes (half two) sa → sb ≡ acrossOf (window .b) row → b ≡ toBytes (half two) sb
     → w ≡ filled (half two) (ruleAt own px py) (onlyWeights weights) (px + blockWidth two) (py + 4)
     → p ≡ isSet (own .«punch_through_flag») (blockWidth two * py + px)

@@ -111,8 +111,8 @@ pub place : (two : Bool) (x y : ℕ) {w : ℕ} → w ≡ blockWidth two → Plac
 place two x y e = record { across = rw e (mod-lt x (omega (arith, half-low two))); down = omega arith }
 
 -- a texel from the words that it needs
-pub texel-needed : (order : ChannelOrder) (g : Grid) (d : List ℕ) (x y : ℕ) {w r : ℕ} {across down : List ℕ} {nine : List PVRTCTexelInfo} → w ≡ blockWidth (g .is2bpp)
-    → across ≡ shares (half (g .is2bpp)) (x % w) → down ≡ shares 2 (y % 4) → nine ≡ neededAbout g d (x / w) (y / 4) across down
+pub texel-needed : (order : ChannelOrder) (g : Grid) (d : List ℕ) (x y : ℕ) {w r : ℕ} {across down : List ℕ} {nine : List PVRTCTexelInfo}
+    → w ≡ blockWidth (g .is2bpp) → across ≡ shares (half (g .is2bpp)) (x % w) → down ≡ shares 2 (y % 4) → nine ≡ neededAbout g d (x / w) (y / 4) across down
     → r ≡ packed order (texelIn (half (g .is2bpp)) (nineOf nine) (x % w) (y % 4)) → r ≡ gridTexel order g d x y
 unfolding texelAt
 texel-needed order g d x y ew ea ed en er =
@@ -126,7 +126,8 @@ texel-needed order g d x y ew ea ed en er =
 
 -- and from those that its row needs
 pub texel-of-row : (order : ChannelOrder) (g : Grid) (d : List ℕ) (x y : ℕ)
-    → packed order (texelIn (half (g .is2bpp)) (nineOf (rowWords g d (x / blockWidth (g .is2bpp)) (y / 4) (y % 4))) (x % blockWidth (g .is2bpp)) (y % 4)) ≡ gridTexel order g d x y
+    → packed order (texelIn (half (g .is2bpp)) (nineOf (rowWords g d (x / blockWidth (g .is2bpp)) (y / 4) (y % 4))) (x % blockWidth (g .is2bpp)) (y % 4))
+    ≡ gridTexel order g d x y
 unfolding texelAt
 texel-of-row order g d x y =
     let px : ℕ = x % blockWidth (g .is2bpp) in

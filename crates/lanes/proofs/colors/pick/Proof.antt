@@ -1,5 +1,4 @@
 -- `lanes::colors::pick` meets its contract. Assumes nothing.
-use mathlib.Core.Path.{refl}
 use borrow.Author.Tests.{eq-eqb, ne-eqb}
 use Rattle.lanes.proofs.colors.pick.Statement.{statement}
 use Rattle.lanes.proofs.colors.pick.Tie as tie

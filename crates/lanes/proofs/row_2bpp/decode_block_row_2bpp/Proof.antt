@@ -175,7 +175,8 @@ loop-again c =
         own-weights = slide 1 next;
         part = slide 1 next-part;
       },
-      block-laid (s .pre .0) 8 bx (starts test .1) (sheet .columns-from .ensures) (a .order) d (now (a .image)) block refl (c .before .before .lay-block-2bpp .ensures)
+      block-laid (s .pre .0) 8 bx (starts test .1) (sheet .columns-from .ensures) (a .order) d (now (a .image)) block refl
+          (c .before .before .lay-block-2bpp .ensures)
           texels (l .loop .inv .2),
     )
 

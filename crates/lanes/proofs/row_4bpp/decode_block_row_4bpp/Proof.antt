@@ -155,7 +155,8 @@ loop-again c =
     let texels = texels-4bpp (a .order) (a .g) (a .by) bx d right (s .pre .1) window in (
       omega (arith, test .loop-test .taken),
       record { left = slide 0 (window .own); own = slide 1 right; codes = slide 1 next },
-      block-laid (s .pre .0) 4 bx (starts test .1) (sheet .columns-from .ensures) (a .order) d (now (a .image)) block refl (c .before .before .lay-block-4bpp .ensures)
+      block-laid (s .pre .0) 4 bx (starts test .1) (sheet .columns-from .ensures) (a .order) d (now (a .image)) block refl
+          (c .before .before .lay-block-4bpp .ensures)
           texels (l .loop .inv .2),
     )
 

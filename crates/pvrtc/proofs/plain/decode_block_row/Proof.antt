@@ -87,7 +87,8 @@ returns c =
     let l = c .before .loop in
     let cover = blocks-cover (blockWidth two) (a .row .width) (wide two) in
     let all : l .bx ≡ blocks (blockWidth two) (a .row .width) = omega (arith, c .loop-test .left, l .inv .0, c .before .before .num-blocks-x .ensures) in
-    all-blocks (a .row) (blockWidth two) (λ x y. gridTexel (a .order) (a .g) (now (a .«data»)) x (a .by * 4 + y)) (now (a .image)) (l .bx) (rw all cover) (l .inv .1)
+    all-blocks (a .row) (blockWidth two) (λ x y. gridTexel (a .order) (a .g) (now (a .«data»)) x (a .by * 4 + y)) (now (a .image)) (l .bx)
+    (rw all cover) (l .inv .1)
 
 pub decode-block-row-spec : {M : Type 1} → statement M
 decode-block-row-spec =

@@ -157,7 +157,8 @@ held c =
     ⊎-elim
     (λ t.
     let words = t .8 ∙ t .3 .ensures in
-    let texels = t .9 ∙ t .6 .ensures ∙ ap₂ (λ n (w : ℕ). withTexels (a .p .order) (g .is2bpp) n 0 (a .y % 4) w (l .loop .texels)) (sym (t .8)) (t .4 .ensures) in
+    let texels =
+    t .9 ∙ t .6 .ensures ∙ ap₂ (λ n (w : ℕ). withTexels (a .p .order) (g .is2bpp) n 0 (a .y % 4) w (l .loop .texels)) (sym (t .8)) (t .4 .ensures) in
     held-first (a .p .order) g d (a .y) (l .loop .x) inside (sym place ∙ t .0 .taken) (l .loop .inv .3) (t .1 .ensures) words texels)
     (λ e. rw (e .1, e .2) (held-later (a .p .order) g d (a .y) (l .loop .x) (λ z. e .0 .left (place ∙ z)) (l .loop .inv .3)))
     (c .if1 .came)

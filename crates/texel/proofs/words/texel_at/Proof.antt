@@ -67,7 +67,8 @@ returns c =
     let a = c .before .before .before .before .before .before .before .before .before .before .before .before .before .before .args in
     let width = c .before .before .before .before .before .before .before .before .before .block-width .ensures in
     let row = row-at 2 (a .y % 4) (c .before .before .before .before .before .before .before .before .before .before .narrow-shares .ensures) (omega arith) in
-    texel-needed (a .order) (a .g) (now (a .«data»)) (a .x) (a .y) width (c .before .before .before .before .before .before .shares-across .ensures) row (c .before .needed-words .ensures) (c .texel-in .ensures)
+    texel-needed (a .order) (a .g) (now (a .«data»)) (a .x) (a .y) width
+    (c .before .before .before .before .before .before .shares-across .ensures) row (c .before .needed-words .ensures) (c .texel-in .ensures)
 
 pub texel-at-spec : {M : Type 1} → statement M
 texel-at-spec =
