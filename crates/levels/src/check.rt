@@ -39,7 +39,7 @@ pub fn as_called(d: pvrtc::Decoded) -> Decoded
     }
 }
 
-// The refusals of the plate's sides.
+// The refusals of the plate's sides. The order has no part in them.
 fn check_sides(l: Levels) -> Decoded
     ensures { λ r. ⌜ Says r (sizeChecks (plateIn l)) ⌝ }
 {

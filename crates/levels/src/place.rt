@@ -30,7 +30,7 @@ pub fn most_levels(side: usize) -> usize
     levels
 }
 
-// The bytes that a level of these sides needs, in the stored grid of these sides.
+// The bytes that a level of these sides needs, in the stored grid of these sides. The order has no part in it.
 fn need_of(width: usize, height: usize, is2bpp: bool) -> usize
     requires { ⌜ (width ≤ 65536) × (height ≤ 65536) ⌝ }
     ensures { λ r. ⌜ (r ≡ needOf width height is2bpp) × (r ≤ 34359738368) ⌝ }

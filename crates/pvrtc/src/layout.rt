@@ -2,7 +2,7 @@
 use crate::GridMode;
 use crate::Picture;
 ghost use mathlib.Core.Path.{_≡_};
-ghost use Rattle.pvrtc.specs.Picture.{picture, sideIn, gridOf, sheetOf};
+ghost use Rattle.pvrtc.specs.Picture.{picture, inOrder, sideIn, gridOf, sheetOf};
 use grid::Grid;
 use paint::Sheet;
 use pixel::ChannelOrder;
@@ -24,6 +24,14 @@ pub fn picture_of(
         mode: mode,
         order: order,
     }
+}
+
+// A picture in another order.
+pub fn in_order(p: Picture, order: ChannelOrder) -> Picture
+    ensures { λ r. ⌜ r ≡ inOrder order p ⌝ }
+{
+    let mode = p.mode;
+    picture_of(p.width, p.height, p.is2bpp, mode, order)
 }
 
 // The blocks along a side of a grid, where `cover` blocks cover the picture.

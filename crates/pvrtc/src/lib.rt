@@ -14,6 +14,7 @@ pub use check::check_sizes;
 pub use check::has_zero_side;
 pub use check::refusal_number;
 pub use layout::grid_of;
+pub use layout::in_order;
 pub use layout::picture_of;
 use pixel::ChannelOrder;
 pub use plain::decode_pvrtc_plain;

@@ -65,10 +65,8 @@ fn blue_first(width: usize, height: usize, is2bpp: bool, mode: GridMode) -> Pict
     pvrtc::picture_of(width, height, is2bpp, mode, ChannelOrder::BlueFirst)
 }
 
-// The same picture in the other order.
 fn red_first(p: Picture) -> Picture {
-    let mode = p.mode;
-    pvrtc::picture_of(p.width, p.height, p.is2bpp, mode, ChannelOrder::RedFirst)
+    pvrtc::in_order(p, ChannelOrder::RedFirst)
 }
 
 // A picture each way, with as many bytes as it needs; then with a byte less.

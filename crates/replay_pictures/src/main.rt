@@ -99,10 +99,8 @@ fn blue_first(width: usize, height: usize, is2bpp: bool) -> Picture {
     )
 }
 
-// The same picture in the other order.
 fn red_first(p: Picture) -> Picture {
-    let mode = p.mode;
-    pvrtc::picture_of(p.width, p.height, p.is2bpp, mode, ChannelOrder::RedFirst)
+    pvrtc::in_order(p, ChannelOrder::RedFirst)
 }
 
 // All rows of pictures of the listed sizes.
