@@ -27,11 +27,11 @@ use Rattle.levels.specs.Inner.{foundNumber, foundLevels, LevelsFound}
 use Rattle.levels.specs.Refusals.{numberOf, decodedNumber, Says}
 use Rattle.levels.proofs.Answers.{number-above}
 
--- a refusal's number tells which it is: 1 to 6 are the block call's, 11 to 17 a PVR header's, and from 31 on all but 36 a KTX header's
+-- a refusal's number tells which it is: 1 to 6 are the block call's, 11 to 18 a PVR header's, and from 31 on all but 36 a KTX header's
 ofNumber : ℕ → Refusal
 ofNumber n =
     cond (ltb n 7) (Picture (call.ofNumber n))
-    (cond (ltb n 18) (Pvr (pvr.ofNumber n))
+    (cond (ltb n 19) (Pvr (pvr.ofNumber n))
     (cond (eqb n 19) NoSuchLevel (cond (eqb n 20) TooManyLevels (cond (eqb n 36) OtherSize (Ktx (ktx.ofNumber n))))))
 
 back : (f : Refusal) → ofNumber (numberOf f) ≡ f
@@ -40,13 +40,13 @@ back (Picture f) = rw (lt-ltb (call-spec.numberOf f) 7 (omega (arith, call.numbe
 back (Pvr f) =
     let n : ℕ = pvr-spec.numberOf f in
     let range = pvr.from-11 f in
-    rw (le-ltb n 7 (omega (arith, range .0)), lt-ltb n 18 (omega (arith, range .1))) (ap Pvr (pvr.back f))
+    rw (le-ltb n 7 (omega (arith, range .0)), lt-ltb n 19 (omega (arith, range .1))) (ap Pvr (pvr.back f))
 back (Ktx f) =
     let n : ℕ = ktx-spec.numberOf f in
     let above = ktx.from-31 f in
     rw (
       le-ltb n 7 (omega (arith, above .0)),
-      le-ltb n 18 (omega (arith, above .0)),
+      le-ltb n 19 (omega (arith, above .0)),
       ne-eqb n 19 (omega (arith, above .0)),
       ne-eqb n 20 (omega (arith, above .0)),
       ne-eqb n 36 (above .1),

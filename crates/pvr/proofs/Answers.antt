@@ -14,13 +14,14 @@ use Rattle.files.proofs.Fields.{same-depth}
 use Rattle.pvr.specs.declared.Header.{Header}
 use Rattle.pvr.specs.declared.Header.the-variants.{Plate, Refused}
 use Rattle.pvr.specs.declared.HeaderRefusal.{HeaderRefusal}
-use Rattle.pvr.specs.declared.HeaderRefusal.the-variants.{ShortHeader, NotPvr, UnknownFormat, DepthNotOne, SurfacesNotOne, FacesNotOne, NoLevel}
+use Rattle.pvr.specs.declared.HeaderRefusal.the-variants.{ShortHeader, NotPvr, UnknownFlags, UnknownFormat, DepthNotOne, SurfacesNotOne, FacesNotOne, NoLevel}
 use Rattle.pvr.specs.Header.{widthField, heightField, isTwo, payloadOffset, headerChecks, headerRefusal, numberOf, headerNumber, HeaderRead}
 
 -- a refusal's number is not 0
 pub number-above : (f : HeaderRefusal) → 0 < numberOf f
 number-above ShortHeader = omega arith
 number-above NotPvr = omega arith
+number-above UnknownFlags = omega arith
 number-above UnknownFormat = omega arith
 number-above DepthNotOne = omega arith
 number-above SurfacesNotOne = omega arith

@@ -1,4 +1,5 @@
 pub mod Answers
+pub mod AnyFlags
 pub mod NoEffect
 pub mod OneNumber
 pub mod Shown

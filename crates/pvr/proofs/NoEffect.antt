@@ -1,4 +1,4 @@
--- Flags, colour space, channel type and whatever follows the header have no effect on how it is read. Assumes nothing.
+-- Colour space, channel type, which of the known flags there are and whatever follows the header have no effect on how it is read. Assumes nothing.
 use mathlib.Core.Path.{_≡_, refl, sym, ap, _∙_}
 use mathlib.Core.Bool.{Bool, true, false, not}
 use mathlib.Core.List.{List, _++_}
@@ -11,26 +11,33 @@ use Rattle.pvr.specs.declared.Header.{Header}
 use Rattle.facts.specs.Finite.{allBelow}
 use Rattle.files.specs.Fields.{u32At}
 use Rattle.files.proofs.Answers.{SameSays}
-use Rattle.files.proofs.Fields.{field-kept}
+use Rattle.files.proofs.Fields.{same-field, field-kept}
 use Rattle.files.proofs.Starts.{same-start}
-use Rattle.pvr.specs.Header.{version, headerSize, pixelFormat, widthField, heightField, levelsField, metadataSize, payloadOffset}
-use Rattle.pvr.specs.Header.{shortHeader, notPvr, countChecks, headerRefusal, HeaderRead}
+use Rattle.pvr.specs.Header.{version, headerSize, knownFlags, pixelFormat, widthField, heightField, levelsField, metadataSize, payloadOffset}
+use Rattle.pvr.specs.Header.{shortHeader, notPvr, unknownFlags, countChecks, headerRefusal, HeaderRead}
 use Rattle.pvr.specs.Reading.{pvrSays}
-use Rattle.pvr.specs.NoEffect.{hasNoEffect, SameHeader}
+use Rattle.pvr.specs.NoEffect.{mayDiffer, SameHeader}
 use Rattle.facts.proofs.Order.{holds-here}
 
--- files of one length, and files that both have the header whole
-module _ (f g : List ℕ) (e : (i : ℕ) → i < headerSize → hasNoEffect i ≡ false → getD f i 0 ≡ getD g i 0) where
-  pub of-one-length : length f ≡ length g → SameHeader f g
-  of-one-length h = record { short = ap (λ (n : ℕ). ltb n headerSize) h; bytes = e }
+-- files whose flags have the same bytes
+pub same-flags : (f g : List ℕ) → ((k : ℕ) → k < 4 → getD f (4 + k) 0 ≡ getD g (4 + k) 0) → unknownFlags f ≡ unknownFlags g
+same-flags f g e = ap (λ (n : ℕ). not (knownFlags n)) (same-field f g 4 e)
 
-  pub of-whole : headerSize ≤ length f → headerSize ≤ length g → SameHeader f g
-  of-whole hf hg = record { short = le-ltb _ _ hf ∙ sym (le-ltb _ _ hg); bytes = e }
+-- files whose headers have the same bytes: files of one length, and files that both have the header whole
+module _ (f g : List ℕ) (e : (i : ℕ) → i < headerSize → getD f i 0 ≡ getD g i 0) where
+  flags : unknownFlags f ≡ unknownFlags g
+  flags = same-flags f g (λ k h. e (4 + k) (omega arith))
+
+  pub of-one-length : length f ≡ length g → SameHeader f g
+  of-one-length h = record { short = ap (λ (n : ℕ). ltb n headerSize) h; flags = flags; bytes = λ i l _. e i l }
+
+  of-whole : headerSize ≤ length f → headerSize ≤ length g → SameHeader f g
+  of-whole hf hg = record { short = le-ltb _ _ hf ∙ sym (le-ltb _ _ hg); flags = flags; bytes = λ i l _. e i l }
 
 module _ {f g : List ℕ} (s : SameHeader f g) where
-  -- a field none of whose bytes is without effect
-  field : (at : ℕ) → at + 4 ≤ headerSize → T (allBelow (λ k. not (hasNoEffect (at + k))) 4) → u32At f at ≡ u32At g at
-  field = field-kept f g hasNoEffect headerSize (s .bytes)
+  -- a field none of whose bytes may differ
+  field : (at : ℕ) → at + 4 ≤ headerSize → T (allBelow (λ k. not (mayDiffer (at + k))) 4) → u32At f at ≡ u32At g at
+  field = field-kept f g mayDiffer headerSize (s .bytes)
 
   pub same-format : pixelFormat f ≡ pixelFormat g
   same-format = rw (field 8 (omega arith) tt, field 12 (omega arith) tt)
@@ -69,7 +76,7 @@ module _ {f g : List ℕ} (s : SameHeader f g) where
     where
       by : (t : Bool) → shortHeader f ≡ t → headerRefusal f ≡ headerRefusal g
       by true e = sym (holds-here _ 11 _ e) ∙ holds-here _ 11 _ (sym (s .short) ∙ e)
-      by false e = rw (s .short, same-version e, same-format, same-counts)
+      by false e = rw (s .short, same-version e, s .flags, same-format, same-counts)
 
   -- so they say the same to the program
   pub same-says : SameSays (pvrSays f) (pvrSays g)
@@ -91,4 +98,4 @@ module _ {f g : List ℕ} (s : SameHeader f g) where
 pub says-before : (file more : List ℕ) → headerSize ≤ length file → SameSays (pvrSays (file ++ more)) (pvrSays file)
 says-before file more h =
     same-says
-    (of-whole (file ++ more) file (λ i l _. List·getD-append file more 0 i (omega arith)) (omega (arith, length-append file more)) h)
+    (of-whole (file ++ more) file (λ i l. List·getD-append file more 0 i (omega arith)) (omega (arith, length-append file more)) h)

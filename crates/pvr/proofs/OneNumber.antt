@@ -7,7 +7,8 @@ use native.Mathlib.Omega.{arith}
 use lib.Dec.{eqb}
 use borrow.Author.Tests.{eqb-true, eqb-false, eq-eqb, ne-eqb}
 use Rattle.facts.specs.Checks.{Check, check, firstOf}
-use Rattle.pvr.specs.Header.{depthNotOne, surfacesNotOne, facesNotOne, noLevel, shortHeader, notPvr, unknownFormat, headerRefusal}
+use Rattle.pvr.specs.AnyFlags.{anyFlagsRefusal}
+use Rattle.pvr.specs.Header.{depthNotOne, surfacesNotOne, facesNotOne, noLevel, shortHeader, notPvr, unknownFormat}
 use Rattle.pvr.specs.OneNumber.{notOnePlate, oneNumberRefusal, OfField, SaysWhich}
 
 -- a number of no field is what it was, and any field's was 14
@@ -34,7 +35,7 @@ unfolding firstOf
 first true n k m none rest = same none
 first false n k m none rest = rest
 
-pub header-which : (file : List ℕ) → SaysWhich (headerRefusal file) (oneNumberRefusal file)
+pub header-which : (file : List ℕ) → SaysWhich (anyFlagsRefusal file) (oneNumberRefusal file)
 unfolding notOnePlate
 header-which file =
     first (shortHeader file) 11 _ _ (λ h. omega (arith, h .0))

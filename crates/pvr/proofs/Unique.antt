@@ -9,7 +9,7 @@ use Rattle.files.proofs.Fields.{same-depth}
 use Rattle.pvr.specs.declared.Header.{Header}
 use Rattle.pvr.specs.declared.Header.the-variants.{Plate, Refused}
 use Rattle.pvr.specs.declared.HeaderRefusal.{HeaderRefusal}
-use Rattle.pvr.specs.declared.HeaderRefusal.the-variants.{ShortHeader, NotPvr, UnknownFormat, DepthNotOne, SurfacesNotOne, FacesNotOne, NoLevel}
+use Rattle.pvr.specs.declared.HeaderRefusal.the-variants.{ShortHeader, NotPvr, UnknownFlags, UnknownFormat, DepthNotOne, SurfacesNotOne, FacesNotOne, NoLevel}
 use Rattle.pvr.specs.Header.{numberOf, headerNumber, headerWidth, headerHeight, headerBits, headerPayload, HeaderRead}
 use Rattle.pvr.proofs.Answers.{number-above}
 
@@ -18,12 +18,15 @@ pub ofNumber : ℕ → HeaderRefusal
 ofNumber n =
     cond (eqb n 11) ShortHeader
     (cond (eqb n 12) NotPvr
-    (cond (eqb n 13) UnknownFormat (cond (eqb n 14) DepthNotOne (cond (eqb n 15) SurfacesNotOne (cond (eqb n 16) FacesNotOne NoLevel)))))
+    (cond (eqb n 18) UnknownFlags
+    (cond (eqb n 13) UnknownFormat
+    (cond (eqb n 14) DepthNotOne (cond (eqb n 15) SurfacesNotOne (cond (eqb n 16) FacesNotOne NoLevel))))))
 
 pub back : (f : HeaderRefusal) → ofNumber (numberOf f) ≡ f
 unfolding ofNumber
 back ShortHeader = refl
 back NotPvr = refl
+back UnknownFlags = refl
 back UnknownFormat = refl
 back DepthNotOne = refl
 back SurfacesNotOne = refl
@@ -33,10 +36,11 @@ back NoLevel = refl
 pub same-refusal : (f g : HeaderRefusal) → numberOf f ≡ numberOf g → f ≡ g
 same-refusal f g e = sym (back f) ∙ ap ofNumber e ∙ back g
 
--- it is 11 to 17
-pub from-11 : (f : HeaderRefusal) → (11 ≤ numberOf f) × (numberOf f ≤ 17)
+-- it is 11 to 18
+pub from-11 : (f : HeaderRefusal) → (11 ≤ numberOf f) × (numberOf f ≤ 18)
 from-11 ShortHeader = omega arith
 from-11 NotPvr = omega arith
+from-11 UnknownFlags = omega arith
 from-11 UnknownFormat = omega arith
 from-11 DepthNotOne = omega arith
 from-11 SurfacesNotOne = omega arith

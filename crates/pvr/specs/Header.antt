@@ -1,8 +1,8 @@
 -- The PVR version 3 header, as document 01 says it ("The program and its two published layouts"), with the numbers that document 02 gives to the
--- fields (W4). Assumes nothing: these are definitions.
+-- fields (W4) and with its refusal of flags (W7). Assumes nothing: these are definitions.
 -- `file` is the list of the file's bytes; a byte past its end counts as 0.
 use mathlib.Core.Path.{_≡_}
-use mathlib.Core.Bool.{Bool, not}
+use mathlib.Core.Bool.{Bool, not, _||_}
 use mathlib.Core.List.{List, [], _∷_}
 use Prim.Native.Nat.{ℕ, _+_}
 use lib.Dec.{eqb, ltb}
@@ -12,15 +12,19 @@ use Rattle.files.specs.Fields.{u32At, u64At, startsWith, bitsOf, unlessRefused}
 use Rattle.pvr.specs.declared.Header.{Header}
 use Rattle.pvr.specs.declared.Header.the-variants.{Plate, Refused}
 use Rattle.pvr.specs.declared.HeaderRefusal.{HeaderRefusal}
-use Rattle.pvr.specs.declared.HeaderRefusal.the-variants.{ShortHeader, NotPvr, UnknownFormat, DepthNotOne, SurfacesNotOne, FacesNotOne, NoLevel}
+use Rattle.pvr.specs.declared.HeaderRefusal.the-variants.{ShortHeader, NotPvr, UnknownFlags, UnknownFormat, DepthNotOne, SurfacesNotOne, FacesNotOne, NoLevel}
 
 -- The header: 52 bytes.
 abbrev pub headerSize : ℕ
 headerSize = 52
 
--- The bytes 50 56 52 03. The flags follow, at place 4.
+-- The bytes 50 56 52 03.
 abbrev pub version : List ℕ
 version = 0x50 ∷ 0x56 ∷ 0x52 ∷ 0x03 ∷ []
+
+-- The flags, all four bytes of them.
+abbrev pub flagsField : List ℕ → ℕ
+flagsField file = u32At file 4
 
 -- The pixel format, all eight bytes of it. The colour space and the channel type follow, at 16 and 20.
 abbrev pub pixelFormat : List ℕ → ℕ
@@ -54,6 +58,10 @@ levelsField file = u32At file 44
 abbrev pub metadataSize : List ℕ → ℕ
 metadataSize file = u32At file 48
 
+-- Flags 0, and 2 for premultiplied: neither alters a texel.
+abbrev pub knownFlags : ℕ → Bool
+knownFlags flags = eqb flags 0 || eqb flags 2
+
 -- Formats 0 and 1 are 2bpp; 2 and 3 are 4bpp.
 abbrev pub isTwo : List ℕ → Bool
 isTwo file = ltb (pixelFormat file) 2
@@ -69,6 +77,10 @@ shortHeader file = ltb (length file) headerSize
 -- The first four bytes differ.
 abbrev pub notPvr : List ℕ → Bool
 notPvr file = not (startsWith file version)
+
+-- The flags are others than these.
+abbrev pub unknownFlags : List ℕ → Bool
+unknownFlags file = not (knownFlags (flagsField file))
 
 -- The format is not 0 to 3.
 abbrev pub unknownFormat : List ℕ → Bool
@@ -104,6 +116,7 @@ abbrev pub headerChecks : List ℕ → List Check
 headerChecks file =
     check (shortHeader file) 11
     ∷ check (notPvr file) 12
+    ∷ check (unknownFlags file) 18
     ∷ check (unknownFormat file) 13
     ∷ countChecks file
 
@@ -115,6 +128,7 @@ headerRefusal file = firstOf (headerChecks file)
 abbrev pub numberOf : HeaderRefusal → ℕ
 numberOf ShortHeader = 11
 numberOf NotPvr = 12
+numberOf UnknownFlags = 18
 numberOf UnknownFormat = 13
 numberOf DepthNotOne = 14
 numberOf SurfacesNotOne = 15

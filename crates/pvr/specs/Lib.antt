@@ -1,3 +1,4 @@
+pub mod AnyFlags
 pub mod Header
 pub mod Inner
 pub mod NoEffect

@@ -2,7 +2,7 @@
 ghost use mathlib.Core.Path.{_≡_};
 ghost use Prim.Native.Nat.{_<_};
 ghost use Rattle.files.specs.Reading.{readingOf};
-ghost use Rattle.pvr.specs.Header.{levelsField, payloadOffset, numberOf, HeaderRead};
+ghost use Rattle.pvr.specs.Header.{knownFlags, levelsField, payloadOffset, numberOf, HeaderRead};
 ghost use Rattle.pvr.specs.Inner.{CountsSay};
 ghost use Rattle.pvr.specs.Reading.{pvrSays};
 use files::Reading;
@@ -16,6 +16,7 @@ const VERSION: [u8; 4] = [0x50, 0x56, 0x52, 0x03];
 pub enum HeaderRefusal {
     ShortHeader,
     NotPvr,
+    UnknownFlags,
     UnknownFormat,
     DepthNotOne,
     SurfacesNotOne,
@@ -47,12 +48,20 @@ pub fn header_refusal_number(f: HeaderRefusal) -> u64
     match f {
         HeaderRefusal::ShortHeader => 11,
         HeaderRefusal::NotPvr => 12,
+        HeaderRefusal::UnknownFlags => 18,
         HeaderRefusal::UnknownFormat => 13,
         HeaderRefusal::DepthNotOne => 14,
         HeaderRefusal::SurfacesNotOne => 15,
         HeaderRefusal::FacesNotOne => 16,
         HeaderRefusal::NoLevel => 17,
     }
+}
+
+// Whether flags are 0, or 2 for premultiplied.
+fn are_known_flags(flags: u32) -> bool
+    ensures { λ r. ⌜ r ≡ knownFlags flags ⌝ }
+{
+    flags == 0 || flags == 2
 }
 
 // The first refusal of the counts whose condition holds: the depth at 32, surfaces at 36, faces at 40, levels at 44.
@@ -97,6 +106,9 @@ pub fn read_header(file: &[u8]) -> Header
     }
     if !files::starts_with(file, &VERSION) {
         return Header::Refused(HeaderRefusal::NotPvr);
+    }
+    if !are_known_flags(files::u32_at(file, 4)) {
+        return Header::Refused(HeaderRefusal::UnknownFlags);
     }
     let format = files::u64_at(file, 8);
     if format > 3 {
