@@ -9,7 +9,7 @@
  *  11  a file shorter than its header             15  the number of surfaces is not 1
  *  12  not a PVR version 3 file                   16  the number of faces is not 1
  *  13  a pixel format other than 0 to 3           17  the number of levels is 0
- *  14  the texture's depth is not 1
+ *  14  the texture's depth is not 1               18  flags other than 0 and 2
  *  19  no such level                              20  more levels than the sides allow
  *  31  a KTX file shorter than its header         35  depth or array elements not 0, or faces not 1
  *  32  not a KTX version 1 file                   36  the size word is not the need

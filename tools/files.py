@@ -2,9 +2,9 @@
 import struct
 
 
-def pvr(width, height, data, pixel_format=3, metadata=b"", depth=1, surfaces=1, faces=1, levels=1):
-    """A PVR file; its format is RGBA at 4bpp unless another is given."""
-    head = struct.pack("<4sIQ9I", b"PVR\3", 0, pixel_format, 0, 0, height, width, depth, surfaces, faces, levels, len(metadata))
+def pvr(width, height, data, flags=0, pixel_format=3, metadata=b"", depth=1, surfaces=1, faces=1, levels=1):
+    """A PVR file; its flags are 0 and its format is RGBA at 4bpp unless others are given."""
+    head = struct.pack("<4sIQ9I", b"PVR\3", flags, pixel_format, 0, 0, height, width, depth, surfaces, faces, levels, len(metadata))
     return head + metadata + data
 
 

@@ -1,6 +1,6 @@
-"""A second reading of document 01, of the KTX request, of the stored grid, of the fields' numbers and of the levels, in Python: the two headers,
-the refusals and their orders, the pictures, a plate's levels, and what `plate` writes. Pictures are those of files, with the stored grid, where a
-call is not told otherwise.
+"""A second reading of document 01, of the KTX request, of the stored grid, of the fields' numbers, of the levels and of the flags, in Python: the two
+headers, the refusals and their orders, the pictures, a plate's levels, and what `plate` writes. Pictures are those of files, with the stored grid,
+where a call is not told otherwise.
 
 It shares nothing with the crates but those documents. The tools that know what must come out import it.
 """
@@ -17,7 +17,7 @@ ROW_ORDER = (1, 2, 3, 4, 5, 6)
 TEXEL_ORDER = (1, 2, 3, 5, 6)
 KTX_HEADER_ORDER = (31, 32, 33, 34, 35, 37)
 KTX_PICTURE_ORDER = KTX_HEADER_ORDER + (1, 2, 36, 3, 4, 5)
-PVR_HEADER_ORDER = (11, 12, 13, 14, 15, 16, 17)
+PVR_HEADER_ORDER = (11, 12, 18, 13, 14, 15, 16, 17)
 PVR_PROGRAM_ORDER = PVR_HEADER_ORDER + (21, 1, 22, 23, 3, 5)
 KTX_PROGRAM_ORDER = (31, 32, 33, 34, 35, 21, 37, 1, 22, 23, 36, 3, 5)
 # Those of a level: of the file, where 37 is for the key/value bytes alone; of the asked level's size word; of its picture.
@@ -205,6 +205,7 @@ def pvr_file(file):
     faults = holding({
         11: len(file) < 52,
         12: file[:4] != PVR_VERSION,
+        18: u32(file, 4) not in (0, 2),
         13: pixel_format > 3,
         14: u32(file, 32) != 1,
         15: u32(file, 36) != 1,
