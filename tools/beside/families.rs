@@ -181,6 +181,7 @@ fn set_fields(c: &mut Comparison, file: &mut [u8], settings: &Settings) {
 
 // Of a PVR file, each field on both sides of what is asked of it.
 const PVR: &Settings = &[
+    (4, &[0, 1, 2, 3, 4, 0x100, 0x202, 0x1_0000, 0x2_0002, 0x100_0000, 1 << 31, !0]),
     (8, &[0, 1, 2, 3, 4, 0x100]),
     (12, &[1]),
     (24, &[0, 1, 24, 1000, 1024, 1025, 65536, 65537, !0]),
@@ -192,13 +193,14 @@ const PVR: &Settings = &[
     (48, &[0, 1, 4096, 4097, !0]),
 ];
 
-// Files of a small plate with fields set in one of four, up to four bytes changed, one in eight cut short.
+// Files of a small plate with either of the accepted flags, with fields set in one of four, up to four bytes changed, one in eight cut short.
 fn damaged_files(c: &mut Comparison, _: usize) {
     for turn in 0..1_000_000 {
         let drawn = c.draw();
         let (bits, side_x, side_y) = (drawn & 1, 1 + (drawn >> 1) % 16, 1 + (drawn >> 5) % 16);
         let metadata = if drawn >> 9 & 3 == 0 { drawn >> 11 & 15 } else { 0 };
-        let mut file = vec![0x50, 0x56, 0x52, 3, 0, 0, 0, 0];
+        let flags = (drawn >> 26 & 2) as u8;
+        let mut file = vec![0x50, 0x56, 0x52, 3, flags, 0, 0, 0];
         file.extend((2 * bits + (drawn >> 15 & 1)).to_le_bytes());
         for field in [0, 0, side_y, side_x, 1, 1, 1, 1, metadata] {
             file.extend((field as u32).to_le_bytes());
@@ -325,11 +327,11 @@ fn level_bytes(c: &mut Comparison, s: Shape, count: u32, is_ktx: bool) -> Vec<u8
     all
 }
 
-// A file with levels: its bytes, and how many levels it says. Metadata or key/value bytes, and fields that have no effect, are drawn.
+// A file with levels: its bytes, and how many levels it says. Metadata or key/value bytes, accepted flags, and fields that have no effect, are drawn.
 fn file_with_levels(c: &mut Comparison) -> (Vec<u8>, u32) {
     let ((width, height), drawn) = (drawn_sides(c), c.draw());
     let s = Shape { width, height, is2bpp: drawn & 1 == 1 };
-    let (is_ktx, alpha) = (drawn >> 1 & 1 == 1, (drawn >> 2 & 1) as u32);
+    let (is_ktx, alpha, flags) = (drawn >> 1 & 1 == 1, (drawn >> 2 & 1) as u32, (drawn >> 2 & 2) as u32);
     let (between, unread) = (Wrap::key_values(&mut c.state), [(); 2].map(|_| Wrap::unread(&mut c.state)));
     let (count, skipped, depth) = (drawn_count(c, levels::most(s)), between.len() as u32, s.is2bpp as u32);
     let mut file = Vec::new();
@@ -337,7 +339,7 @@ fn file_with_levels(c: &mut Comparison) -> (Vec<u8>, u32) {
         file.extend(IDENTIFIER);
         [0x0403_0201, 0, unread[0], 0, 0x8c00 + depth + 2 * alpha, unread[1], width as u32, height as u32, 0, 0, 1, count, skipped]
     } else {
-        [0x0352_5650, 0, 2 - 2 * depth + alpha, 0, unread[0], unread[1], height as u32, width as u32, 1, 1, 1, count, skipped]
+        [0x0352_5650, flags, 2 - 2 * depth + alpha, 0, unread[0], unread[1], height as u32, width as u32, 1, 1, 1, count, skipped]
     };
     file.extend(fields.iter().flat_map(|field| field.to_le_bytes()));
     file.extend(between);

@@ -96,8 +96,9 @@ impl<'a> Reading<'a> {
     }
 }
 
-// What a file has around its data, with drawn fields where these have no effect.
+// What a file has around its data, with drawn fields where these have no effect, and for a PVR file flags that are accepted.
 pub struct Wrap {
+    flags: u32,
     format: u32,
     key_values: Vec<u8>,
     size_word: u32,
@@ -137,6 +138,7 @@ impl Wrap {
         let drawn = draw(state);
         let behind = if len < s.need(STORED) || drawn & 1 == 0 { 0 } else { drawn >> 1 & 15 };
         Wrap {
+            flags: (drawn >> 40 & 2) as u32,
             format: 0x8c00 + s.is2bpp as u32 + (drawn >> 32 & 2) as u32,
             key_values: Wrap::key_values(state),
             size_word: Wrap::size_word(state, s, len),
@@ -165,7 +167,7 @@ impl Wrap {
         let format = 2 * !s.is2bpp as u32 + (self.format >> 1 & 1);
         let (width, height, key_values) = (s.width as u32, s.height as u32, self.key_values.len() as u32);
         let mut file = Vec::with_capacity(52 + self.key_values.len() + data.len());
-        for field in [0x0352_5650, 0, format, 0, 0, 0, height, width, 1, 1, 1, 1, key_values] {
+        for field in [0x0352_5650, self.flags, format, 0, 0, 0, height, width, 1, 1, 1, 1, key_values] {
             file.extend(field.to_le_bytes());
         }
         file.extend(&self.key_values);

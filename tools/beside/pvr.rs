@@ -7,8 +7,8 @@ use crate::shape::{Shape, STORED};
 use crate::{bytes, field, first, Comparison, BY_HEADER, LARGE, WORDS};
 
 // The refusals of the header, and of the program, in their order.
-const HEADER: [u64; 7] = [11, 12, 13, 14, 15, 16, 17];
-const PROGRAM: [u64; 13] = [11, 12, 13, 14, 15, 16, 17, 21, 1, 22, 23, 3, 5];
+const HEADER: [u64; 8] = [11, 12, 18, 13, 14, 15, 16, 17];
+const PROGRAM: [u64; 14] = [11, 12, 18, 13, 14, 15, 16, 17, 21, 1, 22, 23, 3, 5];
 
 // How often each number was the answer of the header's reader, and of the program's function.
 #[derive(Default)]
@@ -49,6 +49,7 @@ impl<'a> Reading<'a> {
         match number {
             11 => self.0.len() < 52,
             12 => !self.0.starts_with(b"PVR\x03"),
+            18 => !matches!(self.field(4), 0 | 2),
             13 => self.field(8) > 3 || self.field(12) != 0,
             14 => self.field(32) != 1,
             15 => self.field(36) != 1,

@@ -49,23 +49,25 @@ use Rattle.levels.proofs.Ranges.{as-pvr, as-ktx, start-past, need-above}
 use Rattle.levels.proofs.Whole.{word-before, numbered-level, level-accepted, call-decides}
 use Rattle.capi.specs.Level.{describedField}
 use Rattle.capi.specs.Plate.{fieldOf}
-use Rattle.demands.specs.Levels.{headerBytes, isUnread, AlikeAt, SameLevel}
+use Rattle.demands.specs.Levels.{headerBytes, mayDiffer, AlikeAt, SameLevel}
 use Rattle.demands.proofs.Needed.{texel-there}
 use Rattle.demands.proofs.Past.{chosen}
 
--- two files with the same header but for what is unread: they end at one place, or both behind what stands before the levels
+-- two files with the same header but for what may differ: they end at one place, or both behind what stands before the levels
 pub record AlikeFront (f g : List ℕ) : Type 0 where
   pub ends : (n : ℕ) → n ≤ levelsIn f .start → ltb (length f) n ≡ ltb (length g) n
-  pub header : (i : ℕ) → i < headerBytes f → isUnread f i ≡ false → getD f i 0 ≡ getD g i 0
+  pub header : (i : ℕ) → i < headerBytes f → mayDiffer f i ≡ false → getD f i 0 ≡ getD g i 0
+  pub flags : isKtx f ≡ false → pvr.unknownFlags f ≡ pvr.unknownFlags g
 
 -- and the same size word of level k: what its number is said by
 pub record AlikeBefore (f g : List ℕ) (k : ℕ) : Type 0 where
   pub ends : (n : ℕ) → n ≤ endAt (levelsIn f) k → ltb (length f) n ≡ ltb (length g) n
-  pub header : (i : ℕ) → i < headerBytes f → isUnread f i ≡ false → getD f i 0 ≡ getD g i 0
+  pub header : (i : ℕ) → i < headerBytes f → mayDiffer f i ≡ false → getD f i 0 ≡ getD g i 0
+  pub flags : isKtx f ≡ false → pvr.unknownFlags f ≡ pvr.unknownFlags g
   pub word : let l = levelsIn f in (i : ℕ) → startAt l k ≤ i + sizeWordBytes (l .sized) → i < startAt l k → getD f i 0 ≡ getD g i 0
 
 -- the first four bytes are read, and tell the kind
-first-read : (t : Bool) (i : ℕ) → i < 4 → cond t (ktx-part.hasNoEffect i) (pvr-part.hasNoEffect i) ≡ false
+first-read : (t : Bool) (i : ℕ) → i < 4 → cond t (ktx-part.hasNoEffect i) (pvr-part.mayDiffer i) ≡ false
 first-read true i h = simp (lt-leb 20 i (omega arith), lt-leb 32 i (omega arith))
 first-read false i h = simp (lt-leb 4 i h, lt-leb 16 i (omega arith), lt-leb 20 i (omega arith))
 
@@ -85,7 +87,7 @@ start-high file = by (isKtx file) refl
     by true e = omega (arith, ap (λ (l : Levels). l .start) (as-ktx file e))
     by false e = omega (arith, ap (λ (l : Levels). l .start) (as-pvr file e))
 
-long-header : (file : List ℕ) → 52 ≤ headerBytes file
+pub long-header : (file : List ℕ) → 52 ≤ headerBytes file
 long-header file = choice (λ (n : ℕ). 52 ≤ n) (isKtx file) (λ _. omega arith) (λ _. omega arith)
 
 module _ {f g : List ℕ} (s : AlikeFront f g) where
@@ -96,7 +98,7 @@ module _ {f g : List ℕ} (s : AlikeFront f g) where
   module _ (e : isKtx f ≡ false) where
     pvr-header : SameHeader f g
     pvr-header =
-        record { short = s .ends pvr.headerSize (start-high f); bytes = λ i h u. s .header i (rw e h) (rw e u) }
+        record { short = s .ends pvr.headerSize (start-high f); flags = s .flags e; bytes = λ i h u. s .header i (rw e h) (rw e u) }
 
     pvr-levels : levelsIn f ≡ levelsIn g
     pvr-levels =
@@ -182,7 +184,7 @@ short-is file k =
 module _ {f g : List ℕ} {k : ℕ} (s : AlikeBefore f g k) where
   -- the level starts behind what stands before all levels
   front : AlikeFront f g
-  front = record { ends = λ n h. s .ends n (omega (arith, start-past (levelsIn f) k)); header = s .header }
+  front = record { ends = λ n h. s .ends n (omega (arith, start-past (levelsIn f) k)); header = s .header; flags = s .flags }
 
   levels : levelsIn f ≡ levelsIn g
   levels = same-levels front
@@ -231,7 +233,7 @@ module _ {f g : List ℕ} {k : ℕ} (s : AlikeBefore f g k) where
 
 -- two files that are alike in the level's bytes too
 alike-before : {f g : List ℕ} {k : ℕ} → AlikeAt f g k → AlikeBefore f g k
-alike-before s = record { ends = s .ends; header = s .header; word = λ i low high. s .own i low (omega arith) }
+alike-before s = record { ends = s .ends; header = s .header; flags = s .flags; word = λ i low high. s .own i low (omega arith) }
 
 module _ {f g : List ℕ} {k : ℕ} (s : AlikeAt f g k) where
   abbrev p : Picture

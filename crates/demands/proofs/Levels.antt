@@ -1,6 +1,6 @@
 -- The levels of a file beside one another, and level 0 beside the plate. Assumes nothing.
 use mathlib.Core.Path.{_≡_, refl, sym, ap, subst, _∙_}
-use mathlib.Core.Bool.{Bool, true, false, cond, not, _&&_}
+use mathlib.Core.Bool.{Bool, true, false, cond, not, _&&_, false≢true}
 use mathlib.Core.List.{List, [], _∷_, _++_}
 use mathlib.Core.Logic.{_↔_, ⊎-elim}
 use Prim.Native.Nat.{ℕ, _+_, _≤_, _<_}
@@ -17,6 +17,8 @@ use Rattle.files.specs.Fields.{u32At, startsWith}
 use Rattle.files.specs.Reading.{Says}
 use Rattle.files.proofs.Answers.{numbersPass, said-passes}
 use Rattle.khronos.specs.Agrees.{Bytes}
+use Rattle.pvr.specs.Header.{unknownFlags}
+use Rattle.pvr.proofs.NoEffect as pvr-same
 use Rattle.ktx.specs.Header as ktx
 use Rattle.ktx.specs.Header.{ktxBytes, isKtx}
 use Rattle.ktx.specs.Picture as ktx-picture
@@ -43,12 +45,12 @@ use Rattle.pvrtc.proofs.Unique.{one-written}
 use Rattle.convert.specs.Output as program
 use Rattle.convert.proofs.Either as says
 use Rattle.demands.specs.Footprint.{SameOutside}
-use Rattle.demands.specs.Levels.{headerBytes, isUnread, AlikeAt, SameButKeyValues, Placing, EachByItself, FirstLevel}
+use Rattle.demands.specs.Levels.{headerBytes, mayDiffer, AlikeAt, SameButKeyValues, Placing, EachByItself, FirstLevel}
 use Rattle.demands.specs.LocalCalls.{blocksOf, changed, mostTouched}
 use Rattle.demands.specs.LocalFiles.{DamagedAt, OnlyNear}
 use Rattle.demands.specs.NoEffect.{SameButFlags}
 use Rattle.demands.specs.Right.{by-level, by-program}
-use Rattle.demands.proofs.Alike.{AlikeBefore, count-read, same-picture, same-start, same-refusal, same-level-of}
+use Rattle.demands.proofs.Alike.{AlikeBefore, count-read, long-header, same-picture, same-start, same-refusal, same-level-of}
 use Rattle.demands.proofs.LocalCalls.{local-pictures}
 use Rattle.demands.proofs.LocalFiles.{only-near, in-front, other-blocks}
 use Rattle.demands.proofs.NoEffect.{past-header}
@@ -73,11 +75,14 @@ module _ (f g : List ℕ) (j z : ℕ) (s : DamagedAt (startAt (levelsIn f) j) f 
   ends : (n : ℕ) → ltb (length f) n ≡ ltb (length g) n
   ends n = ap (λ (m : ℕ). ltb m n) (s .size)
 
-  front : (i : ℕ) → i < headerBytes f → isUnread f i ≡ false → getD f i 0 ≡ getD g i 0
-  front i h _ = in-front s i (omega (arith, past-front f j))
+  front : (i : ℕ) → i < headerBytes f → getD f i 0 ≡ getD g i 0
+  front i h = in-front s i (omega (arith, past-front f j))
+
+  same-flags : unknownFlags f ≡ unknownFlags g
+  same-flags = pvr-same.same-flags f g (λ i h. front (4 + i) (omega (arith, long-header f)))
 
   before : AlikeBefore f g j
-  before = record { ends = λ n _. ends n; header = front; word = λ i low high. in-front s i high }
+  before = record { ends = λ n _. ends n; header = λ i h _. front i h; flags = λ _. same-flags; word = λ i low high. in-front s i high }
 
   -- in level j the other blocks are as they were
   from-there : drop (startAt l j) g ≡ levelData g j
@@ -113,15 +118,16 @@ module _ (f g : List ℕ) (j z : ℕ) (s : DamagedAt (startAt (levelsIn f) j) f 
         (lt-or-le k j)
 
     elsewhere : AlikeAt f g k
-    elsewhere = record { ends = λ n _. ends n; header = front; own = kept }
+    elsewhere = record { ends = λ n _. ends n; header = λ i h _. front i h; flags = λ _. same-flags; own = kept }
 
--- PVR's flags, colour space and channel type are no part of a level
+-- PVR's colour space and channel type are no part of what a level is read from, nor is which of the known flags there are
 flags-alike : (f g : List ℕ) → isKtx f ≡ false → SameButFlags f g → (k : ℕ) → AlikeAt f g k
 flags-alike f g e s k =
     let past = past-front f k in
     record {
       ends = λ n _. ap (λ (m : ℕ). ltb m n) (s .size);
       header = λ i h u. s .bytes i (rw e at u);
+      flags = λ _. s .flags;
       own = λ i low high. s .bytes i (past-header i (omega (arith, rw e at past)));
     }
 
@@ -133,6 +139,7 @@ key-values-alike f g e s k =
     record {
       ends = λ n _. ap (λ (m : ℕ). ltb m n) (s .size);
       header = λ i h u. s .bytes i (rw e at u) (ap (λ (t : Bool). t && ltb i (ktx.sizePlace f)) (lt-leb ktx.headerSize i (rw e at h)));
+      flags = λ q. absurd (false≢true (sym q ∙ e));
       own = λ i low high.
           let behind : ktx.sizePlace f ≤ i = omega arith in
           s .bytes i (count-read i (omega arith)) (simp (le-leb ktx.headerSize i (omega arith), le-ltb i (ktx.sizePlace f) behind));
@@ -146,6 +153,7 @@ later-alike file more k h =
     record {
       ends = λ n l. le-ltb (length file) n (omega arith) ∙ sym (le-ltb (length (file ++ more)) n (omega (arith, longer)));
       header = λ i l _. byte i (omega (arith, past-front file k));
+      flags = λ _. pvr-same.same-flags file (file ++ more) (λ i l. byte (4 + i) (omega (arith, past-front file k, long-header file)));
       own = λ i low high. byte i (omega arith);
     }
 

@@ -1,7 +1,9 @@
 pub mod Alike
+pub mod Before
 pub mod ChannelOrders
 pub mod Counted
 pub mod Damage
+pub mod Flags
 pub mod Gathered
 pub mod Idle
 pub mod Later

@@ -106,7 +106,7 @@ module _ (f g : List ℕ) (z : ℕ) (s : DamagedAt (storedIn f .payload) f g z) 
           rw (as-ktx f e, as-ktx g (sym same-kind ∙ e)) (ktx-same.same-says (header f g z here))
       by false e =
           let front : (i : ℕ) → i < pvr.headerSize → getD f i 0 ≡ getD g i 0 = λ i h. in-front s i (omega (arith, payload-behind f)) in
-          rw (as-pvr f e, as-pvr g (sym same-kind ∙ e)) (pvr-same.same-says (pvr-same.of-one-length f g (λ i h _. front i h) (s .size)))
+          rw (as-pvr f e, as-pvr g (sym same-kind ∙ e)) (pvr-same.same-says (pvr-same.of-one-length f g front (s .size)))
 
   same-rest : drop (storedIn f .payload) g ≡ levelData g
   same-rest = ap (λ (t : Stored). drop (t .payload) g) (same-says .plate)

@@ -14,7 +14,7 @@ use Rattle.files.proofs.Answers.{SameSays}
 use Rattle.files.proofs.Fields.{rest-same}
 use Rattle.files.proofs.Starts.{start-even}
 use Rattle.pvr.specs.Header.{headerSize, payloadOffset}
-use Rattle.pvr.specs.NoEffect.{hasNoEffect, SameHeader}
+use Rattle.pvr.specs.NoEffect.{mayDiffer, SameHeader}
 use Rattle.pvr.proofs.NoEffect as pvr
 use Rattle.ktx.specs.Header.{ktxBytes, isKtx}
 use Rattle.ktx.specs.NoEffect.{SameButIgnored, SameHeader as KtxHeader}
@@ -71,21 +71,21 @@ same-program f g says same-data =
       );
     }
 
--- what lies past a PVR header has an effect
-pub past-header : (i : ℕ) → headerSize ≤ i → hasNoEffect i ≡ false
+-- what lies past a PVR header may not differ
+pub past-header : (i : ℕ) → headerSize ≤ i → mayDiffer i ≡ false
 past-header i h =
     let low : (n : ℕ) → n ≤ headerSize → leb n i ≡ true = λ n l. le-leb n i (omega arith) in
     let high : (n : ℕ) → n ≤ headerSize → ltb i n ≡ false = λ n l. le-ltb i n (omega arith) in
     simp (low 4 (omega arith), low 16 (omega arith), low 20 (omega arith), high 8 (omega arith), high 20 (omega arith), high 24 (omega arith))
 
--- and so do the first four bytes, which tell the kind
-first-kept : (i : ℕ) → i < 4 → hasNoEffect i ≡ false
+-- nor may the first four bytes, which tell the kind
+first-kept : (i : ℕ) → i < 4 → mayDiffer i ≡ false
 first-kept i h = simp (lt-leb 4 i h, lt-leb 16 i (omega arith), lt-leb 20 i (omega arith))
 
--- two files that are alike but for PVR's flags, colour space and channel type
+-- two files that are alike but for PVR's colour space, channel type and flags
 module _ {f g : List ℕ} (s : SameButFlags f g) where
   headers : SameHeader f g
-  headers = pvr.of-one-length f g (λ i _ e. s .bytes i e) (s .size)
+  headers = record { short = ap (λ (n : ℕ). ltb n headerSize) (s .size); flags = s .flags; bytes = λ i _ e. s .bytes i e }
 
   same-field : (k : ℕ) → headerField f k ≡ headerField g k
   same-field k =
@@ -105,7 +105,7 @@ module _ {f g : List ℕ} (s : SameButFlags f g) where
       ∙ sym (ap (λ (t : Says). drop (t .plate .payload) g) (as-pvr g (sym same-kind ∙ e)))
 
 flags-turned : {f g : List ℕ} → SameButFlags f g → SameButFlags g f
-flags-turned s = record { size = sym (s .size); bytes = λ i e. sym (s .bytes i e) }
+flags-turned s = record { size = sym (s .size); flags = sym (s .flags); bytes = λ i e. sym (s .bytes i e) }
 
 -- a field of a header whose values are equal
 fields-alike : {n n' w w' h h' b b' p p' s s' : ℕ} (k : ℕ) → n ≡ n' → w ≡ w' → h ≡ h' → b ≡ b' → p ≡ p' → s ≡ s'

@@ -55,15 +55,17 @@ pub record Placing : Type 0 where
 abbrev pub headerBytes : List ℕ → ℕ
 headerBytes file = cond (isKtx file) ktx.headerSize pvr.headerSize
 
--- What of it no level is read from: KTX's type size and base format; PVR's flags, colour space and channel type.
-abbrev pub isUnread : List ℕ → ℕ → Bool
-isUnread file i = cond (isKtx file) (ktx-same.hasNoEffect i) (pvr-same.hasNoEffect i)
+-- Where two headers of which a level is read alike may differ: in KTX's type size and base format; in PVR's colour space and channel type, and in its flags,
+-- of which only that they are known is read.
+abbrev pub mayDiffer : List ℕ → ℕ → Bool
+mayDiffer file i = cond (isKtx file) (ktx-same.hasNoEffect i) (pvr-same.mayDiffer i)
 
 -- Two files that are alike in what level k is read from: the header, the level's own size word and its own bytes. They end at one place, or both behind
 -- the level. Metadata or key/value bytes, every other size word and every other level may differ.
 pub record AlikeAt (f g : List ℕ) (k : ℕ) : Type 0 where
   pub ends : (n : ℕ) → n ≤ endAt (levelsIn f) k → ltb (length f) n ≡ ltb (length g) n
-  pub header : (i : ℕ) → i < headerBytes f → isUnread f i ≡ false → getD f i 0 ≡ getD g i 0
+  pub header : (i : ℕ) → i < headerBytes f → mayDiffer f i ≡ false → getD f i 0 ≡ getD g i 0
+  pub flags : isKtx f ≡ false → pvr.unknownFlags f ≡ pvr.unknownFlags g
   pub own : let l = levelsIn f in (i : ℕ) → startAt l k ≤ i + sizeWordBytes (l .sized) → i < endAt l k → getD f i 0 ≡ getD g i 0
 
 -- Level k is the same in both: whatever describing or decoding it answers and writes, in either order, and what C is told.
@@ -84,7 +86,7 @@ pub record EachByItself : Type 0 where
   pub alike : (f g : List ℕ) (k : ℕ) → AlikeAt f g k → SameLevel f g k
   -- What follows the level has none.
   pub later : (file more : List ℕ) (k : ℕ) → endAt (levelsIn file) k ≤ length file → SameLevel file (file ++ more) k
-  -- PVR's flags, colour space and channel type have none.
+  -- PVR's colour space and channel type have none, nor has it which of the known flags there are.
   pub flags : (f g : List ℕ) → isKtx f ≡ false → SameButFlags f g → (k : ℕ) → SameLevel f g k
   -- Nor have KTX's type size, base format and the key/value bytes themselves. Its levels, which nothing else reads, are read here.
   pub key-values : (f g : List ℕ) → isKtx f ≡ true → SameButKeyValues f g → (k : ℕ) → SameLevel f g k

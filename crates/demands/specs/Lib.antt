@@ -1,5 +1,7 @@
+pub mod Before
 pub mod ChannelOrders
 pub mod Damage
+pub mod Flags
 pub mod Footprint
 pub mod Idle
 pub mod Levels

@@ -5,8 +5,8 @@ use mathlib.Core.List.{List, _++_}
 use mathlib.Core.Logic.{_↔_}
 use Prim.Native.Nat.{ℕ, _+_, _≤_}
 use lib.ListN.{length, getD}
-use Rattle.pvr.specs.Header.{HeaderRead as PvrHeaderRead}
-use Rattle.pvr.specs.NoEffect.{hasNoEffect}
+use Rattle.pvr.specs.Header.{unknownFlags, HeaderRead as PvrHeaderRead}
+use Rattle.pvr.specs.NoEffect.{mayDiffer}
 use Rattle.pvr.specs.declared.Header.{Header as PvrHeader}
 use Rattle.ktx.specs.Header.{isKtx, payloadOffset, HeaderRead as KtxHeaderRead}
 use Rattle.ktx.specs.NoEffect.{SameButIgnored}
@@ -20,10 +20,11 @@ use Rattle.capi.specs.Ktx.{ktxField, WroteKtx}
 use Rattle.capi.specs.Plate.{headerField}
 use Rattle.convert.specs.Output.{storedIn, plateOf, output, Converted, ConvertedInRoom}
 
--- Two files that differ in PVR's flags, colour space and channel type alone.
+-- Two files that differ in PVR's colour space, channel type and flags alone. Both have flags 0 or 2, or neither has.
 pub record SameButFlags (f g : List ℕ) : Type 0 where
   pub size : length f ≡ length g
-  pub bytes : (i : ℕ) → hasNoEffect i ≡ false → getD f i 0 ≡ getD g i 0
+  pub flags : unknownFlags f ≡ unknownFlags g
+  pub bytes : (i : ℕ) → mayDiffer i ≡ false → getD f i 0 ≡ getD g i 0
 
 -- The program makes the same of two files: its output, and what `convert` lays.
 pub record SameProgram (f g : List ℕ) : Type 0 where
@@ -31,7 +32,7 @@ pub record SameProgram (f g : List ℕ) : Type 0 where
   pub laid : (image image' out out' : List ℕ) (r : ℕ) → Converted f image image' out out' r ↔ Converted g image image' out out' r
   pub laid-in-room : (image image' out out' : List ℕ) (r : ℕ) → ConvertedInRoom f image image' out out' r ↔ ConvertedInRoom g image image' out out' r
 
--- They have no effect: on the header's answer, on a field that C asks for, and on the program where it takes the file as PVR.
+-- That has no effect: on the header's answer, on a field that C asks for, and on the program where it takes the file as PVR.
 pub record NoEffect (f g : List ℕ) : Type 0 where
   pub header : (r : PvrHeader) → PvrHeaderRead f r ↔ PvrHeaderRead g r
   pub field : (k : ℕ) → headerField f k ≡ headerField g k

@@ -30,11 +30,11 @@ pvrProgramChecks file =
 
 -- Each reader's order, that of a KTX file's picture, a level's two, and the program's two.
 pub record Orders (file : List ℕ) : Type 0 where
-  pub pvr-header : numbersOf (pvr.headerChecks file) ≡ 11 ∷ 12 ∷ 13 ∷ 14 ∷ 15 ∷ 16 ∷ 17 ∷ []
+  pub pvr-header : numbersOf (pvr.headerChecks file) ≡ 11 ∷ 12 ∷ 18 ∷ 13 ∷ 14 ∷ 15 ∷ 16 ∷ 17 ∷ []
   pub ktx-header : numbersOf (ktx.headerChecks file) ≡ 31 ∷ 32 ∷ 33 ∷ 34 ∷ 35 ∷ 37 ∷ []
   pub ktx-picture : (room : ℕ) → numbersOf (pictureChecks file room) ≡ 31 ∷ 32 ∷ 33 ∷ 34 ∷ 35 ∷ 37 ∷ 1 ∷ 2 ∷ 36 ∷ 3 ∷ 4 ∷ 5 ∷ []
   pub pvr-level : isKtx file ≡ false → (k room : ℕ)
-      → numbersOf (decodeChecks file k room) ≡ 11 ∷ 12 ∷ 13 ∷ 14 ∷ 15 ∷ 16 ∷ 17 ∷ 1 ∷ 2 ∷ 20 ∷ 19 ∷ 3 ∷ 4 ∷ 5 ∷ []
+      → numbersOf (decodeChecks file k room) ≡ 11 ∷ 12 ∷ 18 ∷ 13 ∷ 14 ∷ 15 ∷ 16 ∷ 17 ∷ 1 ∷ 2 ∷ 20 ∷ 19 ∷ 3 ∷ 4 ∷ 5 ∷ []
   -- 37 first for the key/value bytes, and again for the size word.
   pub ktx-level : isKtx file ≡ true → (k room : ℕ)
       → numbersOf (decodeChecks file k room) ≡ 31 ∷ 32 ∷ 33 ∷ 34 ∷ 35 ∷ 37 ∷ 1 ∷ 2 ∷ 20 ∷ 19 ∷ 37 ∷ 36 ∷ 3 ∷ 4 ∷ 5 ∷ []
@@ -42,4 +42,4 @@ pub record Orders (file : List ℕ) : Type 0 where
       → numbersOf (programChecks file) ≡ 31 ∷ 32 ∷ 33 ∷ 34 ∷ 35 ∷ 21 ∷ 37 ∷ 1 ∷ 22 ∷ 23 ∷ 36 ∷ 3 ∷ 5 ∷ []
   -- The program's list for both kinds says of a PVR file what its own list says: 37 and 36 are never given.
   pub pvr-program : isKtx file ≡ false → programRefusal file ≡ firstOf (pvrProgramChecks file)
-  pub pvr-numbers : numbersOf (pvrProgramChecks file) ≡ 11 ∷ 12 ∷ 13 ∷ 14 ∷ 15 ∷ 16 ∷ 17 ∷ 21 ∷ 1 ∷ 22 ∷ 23 ∷ 3 ∷ 5 ∷ []
+  pub pvr-numbers : numbersOf (pvrProgramChecks file) ≡ 11 ∷ 12 ∷ 18 ∷ 13 ∷ 14 ∷ 15 ∷ 16 ∷ 17 ∷ 21 ∷ 1 ∷ 22 ∷ 23 ∷ 3 ∷ 5 ∷ []

@@ -7,6 +7,7 @@ use native.Mathlib.Omega.{arith}
 use lib.Dec.{T, eqb}
 use borrow.Author.Tests.{eqb-true, eqb-false, ne-eqb}
 use Rattle.facts.specs.Checks.{Check, check, firstOf}
+use Rattle.facts.proofs.Lists.{choice}
 use Rattle.files.proofs.Answers.{numbersPass, said-passes}
 use Rattle.pvr.specs.AnyFlags.{anyFlagsRefusal, stopped, StopsFlags}
 use Rattle.pvr.specs.Header.{shortHeader, notPvr, unknownFlags, unknownFormat, countChecks, headerRefusal}
@@ -16,7 +17,7 @@ abbrev pub isBehind : ℕ → Bool
 isBehind n = not (eqb n 11 || eqb n 12)
 
 -- a list with such numbers alone says one, or none
-behind : (l : List Check) → T (numbersPass isBehind l) → isBehind (firstOf l) ≡ true
+pub behind : (l : List Check) → T (numbersPass isBehind l) → isBehind (firstOf l) ≡ true
 behind l t = by (isBehind (firstOf l)) (said-passes isBehind l tt t)
   where
     by : (t : Bool) → T t → t ≡ true
@@ -27,6 +28,9 @@ behind l t = by (isBehind (firstOf l)) (said-passes isBehind l tt t)
 newly-stopped : (unknown : Bool) {today before : ℕ} → today ≡ stopped unknown before → StopsFlags unknown today before
 newly-stopped true e = record { number = e; newly = (λ h. (refl, h .1), λ h. (omega (arith, rw (h .1) at e), h .1)) }
 newly-stopped false e = record { number = e; newly = (λ h. absurd (omega (arith, e, h .0, h .1)), λ h. absurd (false≢true (h .0))) }
+
+pub known-same : {n : ℕ} → StopsFlags false n n
+known-same = newly-stopped false refl
 
 -- the header's own numbers
 header-number : (file : List ℕ) → headerRefusal file ≡ stopped (unknownFlags file) (anyFlagsRefusal file)
@@ -57,7 +61,17 @@ module _ {unknown : Bool} {today before : ℕ} (w : StopsFlags unknown today bef
       by true e = absurd (none e)
       by false e = e
 
-  -- and so it is with a number that is said where these say none
+  -- what is accepted was accepted, and has known flags
+  pub accepted : eqb today 0 ≡ (eqb before 0 && not unknown)
+  accepted = rw (w .number) (by unknown (eqb before 0) refl)
+    where
+      by : (u t : Bool) → eqb before 0 ≡ t → eqb (stopped u before) 0 ≡ (t && not u)
+      by false true e = e
+      by false false e = e
+      by true true e = rw (eqb-true before 0 e) refl
+      by true false e = choice (λ (n : ℕ). eqb n 0 ≡ false) (isBehind before) (λ _. refl) (λ _. e)
+
+  -- so it is with a number that is said where these say none
   pub or-else : (n : ℕ) → isBehind n ≡ true → StopsFlags unknown (cond (eqb today 0) n today) (cond (eqb before 0) n before)
   or-else n b = newly-stopped unknown (by unknown (eqb before 0) refl (w .number))
     where

@@ -34,6 +34,7 @@ fn print_all(bytes: &mut [u8]) {
     print_words(bytes);
     print_pairs(false, bytes);
     print_pairs(true, bytes);
+    print_flags(bytes);
     print_differing(bytes);
 }
 
@@ -199,7 +200,7 @@ fn print_pair(ktx: bool, row: u64, bytes: &mut [u8]) {
     } else {
         tables::PVR_ORDER
     };
-    if i <= j && t[j] != 0 {
+    if i <= j {
         print_two(ktx, t[i], t[j], bytes);
     }
 }
@@ -298,6 +299,7 @@ fn second_start(c: Case) -> usize {
 fn bring(bytes: &mut [u8], fault: u64) {
     match fault {
         12 => samples::set_u32(bytes, 0, 0x03525600),
+        18 => samples::set_u32(bytes, 4, 1),
         13 => samples::set_u32(bytes, 8, 4),
         14 => samples::set_u32(bytes, 32, 2),
         15 => samples::set_u32(bytes, 36, 2),
@@ -307,6 +309,45 @@ fn bring(bytes: &mut [u8], fault: u64) {
         34 => samples::set_u32(bytes, 28, 0x8c04),
         35 => samples::set_u32(bytes, 52, 6),
         _ => {}
+    }
+}
+
+// Flags of a PVR file: alone, with a wrong first byte before them, with a wrong format after them, and with both. The row has a bit for each of the
+// two, and above them the flags' place in the list.
+fn print_flags(bytes: &mut [u8]) {
+    for row in 0..24u64 {
+        print_flags_row(row, bytes);
+    }
+}
+
+fn print_flags_row(row: u64, bytes: &mut [u8]) {
+    let i = (row / 4 % 6) as usize;
+    let t = tables::FLAGS;
+    print_flagged(t[i], row % 4, bytes);
+}
+
+// The plate that two refusals are brought into, with nothing wrong but what is said. Level 1 is asked.
+fn print_flagged(flags: u32, faults: u64, bytes: &mut [u8]) {
+    let c = faulty(false, 0, 0);
+    lay(bytes, c);
+    samples::set_u32(bytes, 4, flags);
+    print_kind(false);
+    print_name(b" flags", flags as u64);
+    if faults != 0 {
+        io::write_all(1, b", faults");
+    }
+    bring_if(faults % 2, bytes, 12);
+    bring_if(faults / 2 % 2, bytes, 13);
+    print_answers(bytes, 6000, 1, 6000);
+    io::write_all(1, b"\n");
+    print_red_first(bytes, 6000, 1, 6000);
+}
+
+// Brings a fault in and names it, where its bit is 1.
+fn bring_if(bit: u64, bytes: &mut [u8], fault: u64) {
+    if bit == 1 {
+        bring(bytes, fault);
+        print_name(b"", fault);
     }
 }
 

@@ -89,7 +89,10 @@ pub const WORDS: [[u32; 8]; 9] = [
     [16, 16, 5, 13, 4, 0xffffffff, 0, 5],
 ];
 
-// The refusals in their order, 0 being none. Of a KTX file 37 is for the key/value bytes, and 137 the 37 for the asked level's size word.
-pub const PVR_ORDER: [u64; 15] = [11, 12, 13, 14, 15, 16, 17, 1, 2, 20, 19, 3, 4, 5, 0];
+// The refusals in their order. Of a KTX file 37 is for the key/value bytes, and 137 the 37 for the asked level's size word.
+pub const PVR_ORDER: [u64; 15] = [11, 12, 18, 13, 14, 15, 16, 17, 1, 2, 20, 19, 3, 4, 5];
 
 pub const KTX_ORDER: [u64; 15] = [31, 32, 33, 34, 35, 37, 1, 2, 20, 19, 137, 36, 3, 4, 5];
+
+// Flags of a PVR file: the two that are accepted, those beside them, the highest bit, and all of them.
+pub const FLAGS: [u32; 6] = [0, 1, 2, 3, 0x80000000, 0xffffffff];

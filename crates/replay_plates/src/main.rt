@@ -6,7 +6,8 @@ ghost use lib.ListN.{length};
 ghost use Rattle.convert.specs.Output.{Room};
 
 // What a row says, one number or some as one: where a file is cut, a place and its four bytes, how much metadata there is and where the file ends,
-// a format and two sides, these and where the file ends, two refusals by their places in the order, or a bit for each of six.
+// a format and two sides, these and where the file ends, two refusals by their places in the order, a bit for each of seven, or flags by their
+// place in the list and a bit for each of two.
 enum Row {
     Cut,
     Place,
@@ -15,6 +16,7 @@ enum Row {
     Tiny,
     Faults,
     Fields,
+    Flags,
 }
 
 fn main() {
@@ -28,8 +30,9 @@ fn print_files(bytes: &mut [u8]) {
     print_rows(Row::End, &tables::ENDS, bytes);
     print_rows(Row::Size, &tables::SIZES, bytes);
     print_rows(Row::Tiny, &tables::TINY, bytes);
-    print_run(Row::Faults, 169, bytes);
-    print_run(Row::Fields, 64, bytes);
+    print_run(Row::Faults, 196, bytes);
+    print_run(Row::Fields, 128, bytes);
+    print_run(Row::Flags, 24, bytes);
 }
 
 // The rows below n, one after another.
@@ -55,6 +58,7 @@ fn print_row(kind: Row, row: u64, bytes: &mut [u8]) {
         Row::Tiny => print_tiny(row, bytes),
         Row::Faults => print_faults(row, bytes),
         Row::Fields => print_fields(row, bytes),
+        Row::Flags => print_flags(row, bytes),
     }
 }
 
@@ -114,10 +118,10 @@ fn set_size(format: u32, width: u32, height: u32, bytes: &mut [u8]) {
     samples::set_u32(bytes, 48, 4096);
 }
 
-// Every two refusals at once: the row's two digits to base thirteen are their places in the order. Of each two, one row of the two is taken.
+// Every two refusals at once: the row's two digits to base fourteen are their places in the order. Of each two, one row of the two is taken.
 fn print_faults(row: u64, bytes: &mut [u8]) {
-    let i = (row / 13 % 13) as usize;
-    let j = (row % 13) as usize;
+    let i = (row / 14 % 14) as usize;
+    let j = (row % 14) as usize;
     let t = tables::ORDER;
     if i <= j {
         print_two(bytes, t[i], t[j]);
@@ -134,16 +138,37 @@ fn print_two(bytes: &mut [u8], first: u64, second: u64) {
     print_answer(bytes, facts::least(end_of(first), end_of(second)));
 }
 
-// Depth, surfaces, faces and levels, each wrong or not, with the format before them and a side after: the row has a bit for each.
+// Depth, surfaces, faces and levels, each wrong or not, with the flags and the format before them and a side after: the row has a bit for each.
 fn print_fields(row: u64, bytes: &mut [u8]) {
     samples::lay_file(&tables::PLAIN, bytes);
     io::write_all(1, b"at once");
-    bring_if(row % 2, bytes, 13);
-    bring_if(row / 2 % 2, bytes, 14);
-    bring_if(row / 4 % 2, bytes, 15);
-    bring_if(row / 8 % 2, bytes, 16);
-    bring_if(row / 16 % 2, bytes, 17);
-    bring_if(row / 32 % 2, bytes, 1);
+    bring_if(row % 2, bytes, 18);
+    bring_if(row / 2 % 2, bytes, 13);
+    bring_if(row / 4 % 2, bytes, 14);
+    bring_if(row / 8 % 2, bytes, 15);
+    bring_if(row / 16 % 2, bytes, 16);
+    bring_if(row / 32 % 2, bytes, 17);
+    bring_if(row / 64 % 2, bytes, 1);
+    print_answer(bytes, 40000);
+}
+
+// Flags alone, with a wrong first byte before them, with a wrong format after them, and with both: the row has a bit for each of the two, and above
+// them the flags' place in the list.
+fn print_flags(row: u64, bytes: &mut [u8]) {
+    let i = (row / 4 % 6) as usize;
+    let t = tables::FLAGS;
+    print_flagged(bytes, t[i], row % 4);
+}
+
+fn print_flagged(bytes: &mut [u8], flags: u32, faults: u64) {
+    samples::lay_file(&tables::PLAIN, bytes);
+    samples::set_u32(bytes, 4, flags);
+    print_name(b"flags", flags as u64);
+    if faults != 0 {
+        io::write_all(1, b", faults");
+    }
+    bring_if(faults % 2, bytes, 12);
+    bring_if(faults / 2 % 2, bytes, 13);
     print_answer(bytes, 40000);
 }
 
@@ -164,6 +189,7 @@ fn set_sides(bytes: &mut [u8], width: u32, height: u32) {
 fn bring(bytes: &mut [u8], fault: u64) {
     match fault {
         12 => samples::set_u32(bytes, 0, 0x03525600),
+        18 => samples::set_u32(bytes, 4, 1),
         13 => samples::set_u32(bytes, 8, 4),
         14 => samples::set_u32(bytes, 32, 2),
         15 => samples::set_u32(bytes, 36, 2),

@@ -5,7 +5,7 @@ pub const PLAIN: [u32; 13] = [0x03525650, 0, 3, 0, 0, 0, 8, 8, 1, 1, 1, 1, 0];
 
 // Places of the header, before a row's mark, and the four bytes put there, behind it. A row is one number: a function that lends many small
 // arrays takes long to prove.
-pub const FIELDS: [u64; 63] = [
+pub const FIELDS: [u64; 79] = [
     // the version: PVR's, each byte changed, and the bytes turned
     0x00_03525650,
     0x00_03525651,
@@ -13,7 +13,25 @@ pub const FIELDS: [u64; 63] = [
     0x00_03535650,
     0x00_04525650,
     0x00_50565203,
-    // the flags have no effect
+    // the flags: 2 is accepted, as 0 is
+    0x04_00000002,
+    // one byte of the four wrong, and the others as in 0 or in 2
+    0x04_00000004,
+    0x04_00000080,
+    0x04_00000100,
+    0x04_00000102,
+    0x04_00010000,
+    0x04_00010002,
+    0x04_01000000,
+    0x04_01000002,
+    // a 2 in another byte, by itself and beside the lowest one's; a 2 in each; and every bit
+    0x04_00000200,
+    0x04_00000202,
+    0x04_00020000,
+    0x04_00020002,
+    0x04_02000000,
+    0x04_02000002,
+    0x04_02020202,
     0x04_ffffffff,
     // the format's lower half
     0x08_00000000,
@@ -157,4 +175,7 @@ pub const TINY: [u64; 26] = [
 ];
 
 // The refusals in their order.
-pub const ORDER: [u64; 13] = [11, 12, 13, 14, 15, 16, 17, 21, 1, 22, 23, 3, 5];
+pub const ORDER: [u64; 14] = [11, 12, 18, 13, 14, 15, 16, 17, 21, 1, 22, 23, 3, 5];
+
+// Flags: the two that are accepted, those beside them, the highest bit, and all of them.
+pub const FLAGS: [u32; 6] = [0, 1, 2, 3, 0x80000000, 0xffffffff];

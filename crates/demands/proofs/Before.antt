@@ -1,0 +1,141 @@
+-- What a file's header is refused by decides what is said of the file, and a header's number all that is answered. Assumes nothing.
+use mathlib.Core.Path.{_≡_, refl, sym, ap, subst, _∙_}
+use mathlib.Core.Bool.{Bool, true, false, cond, false≢true}
+use mathlib.Core.List.{List, _++_}
+use mathlib.Core.Logic.{_↔_}
+use Prim.Native.Nat.{ℕ}
+use lib.Dec.{T, eqb}
+use lib.ListN.{length}
+use Rattle.facts.specs.Checks.{Check, firstOf, numbered}
+use Rattle.facts.proofs.Checks.{first-append, numbered-append}
+use Rattle.facts.proofs.Lists.{choice}
+use Rattle.files.specs.Reading.{Says}
+use Rattle.files.specs.declared.Reading.the-variants.{Plate, Refused}
+use Rattle.paint.specs.Sheet.{onSheet}
+use Rattle.pixel.specs.declared.ChannelOrder.{ChannelOrder}
+use Rattle.pvrtc.specs.Picture.{inOrder, sheetOf, pictureTexel}
+use Rattle.pvr.specs.Header.{headerChecks, HeaderAnswered}
+use Rattle.pvr.specs.Reading.{pvrPlate, pvrSays}
+use Rattle.ktx.specs.Header.{isKtx}
+use Rattle.ktx.specs.Reading.{ktxSays}
+use Rattle.levels.specs.Calls.{Answered as AnsweredLevel}
+use Rattle.levels.specs.Levels.{levelsIn, levelOf, pictureOf, levelData as dataOfLevel}
+use Rattle.levels.specs.Refusals as level
+use Rattle.levels.specs.Refusals.{ktxHeaderChecks, callChecks, levelRefusal, decodeRefusal, decodedNumber}
+use Rattle.levels.specs.declared.Decoded.{Decoded}
+use Rattle.levels.proofs.Whole.{numbered-words}
+use Rattle.capi.specs.Level.{describedField}
+use Rattle.capi.specs.Plate.{Wrote, fieldOf}
+use Rattle.convert.specs.Output.{saysOf, storedIn, plateOf, levelData, ownChecks, programRefusal, written, Answered, Converted}
+use Rattle.demands.specs.Before.{pvrSaysBy, saysBy, programRefusalBy, levelChecksBy, levelRefusalBy, decodeRefusalBy, AnsweredBy}
+
+-- today's numbers are those by today's list
+module _ (file : List ℕ) where
+  pub program-today : programRefusal file ≡ programRefusalBy (headerChecks file) file
+  unfolding saysOf
+  program-today = refl
+
+  pub level-today : (k : ℕ) → levelRefusal file k ≡ levelRefusalBy (headerChecks file) file k
+  unfolding level.headerChecks
+  level-today k = refl
+
+  pub decode-today : (k room : ℕ) → decodeRefusal file k room ≡ decodeRefusalBy (headerChecks file) file k room
+  unfolding level.headerChecks
+  decode-today k room = refl
+
+-- the number of a header of either kind, as the program and a level have it
+abbrev pub saidBy : List Check → List ℕ → ℕ
+saidBy head file = firstOf (saysBy head file .refusals)
+
+abbrev pub foundBy : List Check → List ℕ → ℕ
+foundBy head file = firstOf (cond (isKtx file) (ktxHeaderChecks file) head)
+
+-- each number is the header's, or else what the rest says
+module _ (head : List Check) (file : List ℕ) (t : T (numbered head)) where
+  pub program-by : programRefusalBy head file
+      ≡ cond (eqb (saidBy head file) 0) (firstOf (ownChecks (storedIn file) (length (levelData file)))) (saidBy head file)
+  program-by = first-append (saysBy head file .refusals) (ownChecks (storedIn file) (length (levelData file)))
+      (choice (λ (s : Says). T (numbered (s .refusals))) (isKtx file) (λ _. tt) (λ _. t))
+
+  numbered-head : T (numbered (cond (isKtx file) (ktxHeaderChecks file) head))
+  numbered-head = choice (λ (l : List Check). T (numbered l)) (isKtx file) (λ _. tt) (λ _. t)
+
+  pub level-by : (k : ℕ) → levelRefusalBy head file k
+      ≡ cond (eqb (foundBy head file) 0) (firstOf (level.ownChecks file (levelsIn file) k)) (foundBy head file)
+  level-by k = first-append (cond (isKtx file) (ktxHeaderChecks file) head) (level.ownChecks file (levelsIn file) k) numbered-head
+
+  pub decode-by : (k room : ℕ) → decodeRefusalBy head file k room
+      ≡ cond (eqb (levelRefusalBy head file k) 0) (firstOf (callChecks (pictureOf file k) (length (dataOfLevel file k)) room)) (levelRefusalBy head file k)
+  decode-by k room =
+      first-append (levelChecksBy head file k) (callChecks (pictureOf file k) (length (dataOfLevel file k)) room)
+      (numbered-append (cond (isKtx file) (ktxHeaderChecks file) head) _ numbered-head (numbered-words file (levelsIn file) k))
+
+-- what is met with a number is met with another that equals it
+both-ways : (Q : ℕ → Type 0) {n m : ℕ} → n ≡ m → Q n ↔ Q m
+both-ways Q e = (subst Q e, subst Q (sym e))
+
+-- so where the header's number is the same, all is
+module _ (head : List Check) (file : List ℕ) (t : T (numbered head)) (e : firstOf (headerChecks file) ≡ firstOf head) where
+  said-same : saidBy (headerChecks file) file ≡ saidBy head file
+  said-same = by (isKtx file)
+    where
+      by : (k : Bool) → firstOf (cond k (ktxSays file) (pvrSays file) .refusals) ≡ firstOf (cond k (ktxSays file) (pvrSaysBy head file) .refusals)
+      by true = refl
+      by false = e
+
+  found-same : foundBy (headerChecks file) file ≡ foundBy head file
+  found-same = by (isKtx file)
+    where
+      by : (k : Bool) → firstOf (cond k (ktxHeaderChecks file) (headerChecks file)) ≡ firstOf (cond k (ktxHeaderChecks file) head)
+      by true = refl
+      by false = e
+
+  program-same : programRefusal file ≡ programRefusalBy head file
+  program-same =
+      program-today file ∙ program-by (headerChecks file) file tt
+      ∙ ap (λ (n : ℕ). cond (eqb n 0) (firstOf (ownChecks (storedIn file) (length (levelData file)))) n) said-same
+      ∙ sym (program-by head file t)
+
+  level-same-by : (k : ℕ) → levelRefusalBy (headerChecks file) file k ≡ levelRefusalBy head file k
+  level-same-by k =
+      level-by (headerChecks file) file tt k
+      ∙ ap (λ (n : ℕ). cond (eqb n 0) (firstOf (level.ownChecks file (levelsIn file) k)) n) found-same
+      ∙ sym (level-by head file t k)
+
+  level-same : (k : ℕ) → levelRefusal file k ≡ levelRefusalBy head file k
+  level-same k = level-today file k ∙ level-same-by k
+
+  decode-same : (k room : ℕ) → decodeRefusal file k room ≡ decodeRefusalBy head file k room
+  decode-same k room =
+      decode-today file k room ∙ decode-by (headerChecks file) file tt k room
+      ∙ ap (λ (n : ℕ). cond (eqb n 0) (firstOf (callChecks (pictureOf file k) (length (dataOfLevel file k)) room)) n) (level-same-by k)
+      ∙ sym (decode-by head file t k room)
+
+  laid : (image image' out out' : List ℕ) (r : ℕ)
+      → Converted file image image' out out' r ↔ Answered (programRefusalBy head file) (plateOf file) (levelData file) image image' out out' r
+  laid image image' out out' r = both-ways (λ n. Answered n (plateOf file) (levelData file) image image' out out' r) program-same
+
+  pub answered-by : AnsweredBy head file
+  answered-by =
+      record {
+        header = λ r. both-ways (λ n. HeaderAnswered n file r) e;
+        reading = ap (λ (n : ℕ). cond (eqb n 0) (Plate (pvrPlate file)) (Refused n)) e;
+        c-field = λ k. rw e refl;
+        program = ap (λ (n : ℕ). written n (plateOf file) (levelData file)) program-same;
+        laid = laid;
+        laid-in-room = λ image image' out out' r room.
+            let same = laid image image' out out' r in (
+              λ a. same .0 (a .done room),
+              λ b. record { done = λ _. same .1 b; too-little = λ q. absurd (false≢true (sym q ∙ room)) },
+            );
+        description = λ k r. both-ways (λ n. AnsweredLevel n (levelOf file k) r) (level-same k);
+        c-description = λ k field. ap (λ (n : ℕ). fieldOf n (describedField (levelOf file k) field) field) (level-same k);
+        picture = λ order k old new r. let n = decode-same k (length old) in (
+          λ a. record { number = a .number ∙ n; words = rw n at (a .words) },
+          λ b. record { number = b .number ∙ sym n; words = rw (sym n) at (b .words) },
+        );
+        c-picture = λ order k old new r. both-ways (λ n. Wrote n (done order k old) old new r) (decode-same k (length old));
+      }
+    where
+      done : ChannelOrder → ℕ → List ℕ → List ℕ
+      done order k old = onSheet (sheetOf (pictureOf file k)) (pictureTexel (inOrder order (pictureOf file k)) (dataOfLevel file k)) old
