@@ -8,11 +8,11 @@ use lib.ListN.{length}
 use Rattle.facts.specs.Checks.{Check, firstOf}
 use Rattle.facts.proofs.Lists.{choice}
 use Rattle.files.proofs.Answers.{of-number, numbersPass}
-use Rattle.pvr.specs.AnyFlags.{anyFlagsChecks, anyFlagsRefusal, StopsFlags}
+use Rattle.pvr.specs.AnyFlags.{anyFlagsChecks, anyFlagsRefusal, passes, StopsFlags}
 use Rattle.pvr.specs.Header.{unknownFlags, headerChecks, headerRefusal}
 use Rattle.pvr.specs.OneNumber.{oneNumberRefusal}
 use Rattle.pvr.specs.Reading.{pvrSays}
-use Rattle.pvr.proofs.AnyFlags.{isBehind, behind, known-same, flags-stop, not-stopped, accepted, or-else}
+use Rattle.pvr.proofs.AnyFlags.{passing, known-same, flags-stop, not-stopped, accepted, or-else}
 use Rattle.pvr.proofs.OneNumber.{header-which, none-same}
 use Rattle.ktx.specs.Header.{isKtx}
 use Rattle.ktx.specs.Reading.{ktxSays}
@@ -51,17 +51,17 @@ module _ (file : List ℕ) where
   program : StopsFlags (hasUnknownFlags file) (programRefusal file) (programRefusalBy before file)
   program =
       let own : List Check = ownChecks (storedIn file) (length (levelData file)) in
-      rw (program-today file, program-by (headerChecks file) file tt, program-by before file tt) (or-else said (firstOf own) (behind own tt))
+      rw (program-today file, program-by (headerChecks file) file tt, program-by before file tt) (or-else said (firstOf own) (passing own tt))
 
   -- a level's, which has a size word or not, and that of its picture
-  words-behind : (k : ℕ) → T (numbersPass isBehind (sizeWordChecks file (levelsIn file) k))
+  words-pass : (k : ℕ) → T (numbersPass passes (sizeWordChecks file (levelsIn file) k))
   unfolding sizeWordChecks
-  words-behind k = choice (λ (l : List Check). T (numbersPass isBehind l)) (levelsIn file .sized) (λ _. tt) (λ _. tt)
+  words-pass k = choice (λ (l : List Check). T (numbersPass passes l)) (levelsIn file .sized) (λ _. tt) (λ _. tt)
 
   description-by : (k : ℕ) → StopsFlags (hasUnknownFlags file) (levelRefusalBy (headerChecks file) file k) (levelRefusalBy before file k)
   description-by k =
       let own : List Check = level.ownChecks file (levelsIn file) k in
-      rw (level-by (headerChecks file) file tt k, level-by before file tt k) (or-else found (firstOf own) (behind own (words-behind k)))
+      rw (level-by (headerChecks file) file tt k, level-by before file tt k) (or-else found (firstOf own) (passing own (words-pass k)))
 
   description : (k : ℕ) → StopsFlags (hasUnknownFlags file) (levelRefusal file k) (levelRefusalBy before file k)
   description k = rw (level-today file k) (description-by k)
@@ -70,7 +70,7 @@ module _ (file : List ℕ) where
   picture k room =
       let own : List Check = callChecks (pictureOf file k) (length (dataOfLevel file k)) room in
       rw (decode-today file k room, decode-by (headerChecks file) file tt k room, decode-by before file tt k room)
-      (or-else (description-by k) (firstOf own) (behind own tt))
+      (or-else (description-by k) (firstOf own) (passing own tt))
 
   pub stop : FlagsStop file
   stop =

@@ -1,6 +1,6 @@
 -- What 18 refuses, beside what was refused while flags had no effect. Assumes nothing.
 use mathlib.Core.Path.{_≡_, refl, sym, _∙_}
-use mathlib.Core.Bool.{Bool, true, false, cond, not, _&&_, _||_, false≢true}
+use mathlib.Core.Bool.{Bool, true, false, cond, not, _&&_, false≢true}
 use mathlib.Core.List.{List, _∷_}
 use Prim.Native.Nat.{ℕ}
 use native.Mathlib.Omega.{arith}
@@ -9,16 +9,12 @@ use borrow.Author.Tests.{eqb-true, eqb-false, ne-eqb}
 use Rattle.facts.specs.Checks.{Check, check, firstOf}
 use Rattle.facts.proofs.Lists.{choice}
 use Rattle.files.proofs.Answers.{numbersPass, said-passes}
-use Rattle.pvr.specs.AnyFlags.{anyFlagsRefusal, stopped, StopsFlags}
+use Rattle.pvr.specs.AnyFlags.{anyFlagsRefusal, passes, stopped, StopsFlags}
 use Rattle.pvr.specs.Header.{shortHeader, notPvr, unknownFlags, unknownFormat, countChecks, headerRefusal}
 
--- a number that is not said before the flags are asked
-abbrev pub isBehind : ℕ → Bool
-isBehind n = not (eqb n 11 || eqb n 12)
-
--- a list with such numbers alone says one, or none
-pub behind : (l : List Check) → T (numbersPass isBehind l) → isBehind (firstOf l) ≡ true
-behind l t = by (isBehind (firstOf l)) (said-passes isBehind l tt t)
+-- a list whose numbers all pass says one that does, or none
+pub passing : (l : List Check) → T (numbersPass passes l) → passes (firstOf l) ≡ true
+passing l t = by (passes (firstOf l)) (said-passes passes l tt t)
   where
     by : (t : Bool) → T t → t ≡ true
     by true _ = refl
@@ -46,7 +42,7 @@ header-number file = by (shortHeader file) (notPvr file) (unknownFlags file)
     by true other false = refl
     by false true true = refl
     by false true false = refl
-    by false false true = rw (behind rest tt) refl
+    by false false true = rw (passing rest tt) refl
     by false false false = refl
 
 pub flags-stop : (file : List ℕ) → StopsFlags (unknownFlags file) (headerRefusal file) (anyFlagsRefusal file)
@@ -55,7 +51,7 @@ flags-stop file = newly-stopped (unknownFlags file) (header-number file)
 module _ {unknown : Bool} {today before : ℕ} (w : StopsFlags unknown today before) where
   -- what is not stopped is what it was
   pub not-stopped : (today ≡ 18 → ⊥) → today ≡ before
-  not-stopped none = by (unknown && isBehind before) (w .number)
+  not-stopped none = by (unknown && passes before) (w .number)
     where
       by : (t : Bool) → today ≡ cond t 18 before → today ≡ before
       by true e = absurd (none e)
@@ -69,10 +65,10 @@ module _ {unknown : Bool} {today before : ℕ} (w : StopsFlags unknown today bef
       by false true e = e
       by false false e = e
       by true true e = rw (eqb-true before 0 e) refl
-      by true false e = choice (λ (n : ℕ). eqb n 0 ≡ false) (isBehind before) (λ _. refl) (λ _. e)
+      by true false e = choice (λ (n : ℕ). eqb n 0 ≡ false) (passes before) (λ _. refl) (λ _. e)
 
   -- so it is with a number that is said where these say none
-  pub or-else : (n : ℕ) → isBehind n ≡ true → StopsFlags unknown (cond (eqb today 0) n today) (cond (eqb before 0) n before)
+  pub or-else : (n : ℕ) → passes n ≡ true → StopsFlags unknown (cond (eqb today 0) n today) (cond (eqb before 0) n before)
   or-else n b = newly-stopped unknown (by unknown (eqb before 0) refl (w .number))
     where
       above : (t : Bool) → (before ≡ 0 → ⊥) → today ≡ cond t 18 before → eqb today 0 ≡ false
@@ -83,4 +79,4 @@ module _ {unknown : Bool} {today before : ℕ} (w : StopsFlags unknown today bef
       by false true e q = rw (q, e) refl
       by false false e q = rw (q, e) refl
       by true true e q = rw (b, q, eqb-true before 0 e) refl
-      by true false e q = rw (above (isBehind before) (eqb-false before 0 e) q) q
+      by true false e q = rw (above (passes before) (eqb-false before 0 e) q) q

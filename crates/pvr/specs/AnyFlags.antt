@@ -21,9 +21,13 @@ anyFlagsChecks file =
 abbrev pub anyFlagsRefusal : List ℕ → ℕ
 anyFlagsRefusal file = firstOf (anyFlagsChecks file)
 
+-- A number by which a file passes the checks before the flags: neither 11 nor 12.
+abbrev pub passes : ℕ → Bool
+passes n = not (eqb n 11 || eqb n 12)
+
 -- The number that is said where `before` was: 18 where the flags are unknown and both 11 and 12 are passed, else the same.
 abbrev pub stopped : (unknown : Bool) (before : ℕ) → ℕ
-stopped unknown before = cond (unknown && not (eqb before 11 || eqb before 12)) 18 before
+stopped unknown before = cond (unknown && passes before) 18 before
 
 -- The number said today and the one said before: refused today and not before is exactly what has unknown flags and was not refused.
 pub record StopsFlags (unknown : Bool) (today before : ℕ) : Type 0 where

@@ -144,12 +144,17 @@ fn print_fields(row: u64, bytes: &mut [u8]) {
     io::write_all(1, b"at once");
     bring_if(row % 2, bytes, 18);
     bring_if(row / 2 % 2, bytes, 13);
-    bring_if(row / 4 % 2, bytes, 14);
-    bring_if(row / 8 % 2, bytes, 15);
-    bring_if(row / 16 % 2, bytes, 16);
-    bring_if(row / 32 % 2, bytes, 17);
+    bring_counts(row / 4, bytes);
     bring_if(row / 64 % 2, bytes, 1);
     print_answer(bytes, 40000);
+}
+
+// The four between them: a bit for each, from the lowest on.
+fn bring_counts(row: u64, bytes: &mut [u8]) {
+    bring_if(row % 2, bytes, 14);
+    bring_if(row / 2 % 2, bytes, 15);
+    bring_if(row / 4 % 2, bytes, 16);
+    bring_if(row / 8 % 2, bytes, 17);
 }
 
 // Flags alone, with a wrong first byte before them, with a wrong format after them, and with both: the row has a bit for each of the two, and above
