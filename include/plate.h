@@ -61,8 +61,8 @@ uint64_t plate_row(const uint8_t *data, size_t len, uint64_t width, uint64_t hei
 uint64_t plate_picture(const uint8_t *data, size_t len, uint64_t width, uint64_t height, uint32_t depth, uint32_t mode, uint32_t order,
                        uint32_t *image, size_t room);
 
-/* A field of a PVR version 3 file's header. 0: the refusal's number, the first of 11 to 17 that holds; 1: width; 2: height; 3: bits a texel,
- * 2 or 4; 4: where the picture's data starts. Fields 1 to 4 of a refused header, and any other field, are 0. */
+/* A field of a PVR version 3 file's header. 0: the refusal's number, the first of 11, 12, 18 and 13 to 17, in this order, that holds; 1: width;
+ * 2: height; 3: bits a texel, 2 or 4; 4: where the picture's data starts. Fields 1 to 4 of a refused header, and any other field, are 0. */
 uint64_t plate_header(const uint8_t *file, size_t len, uint32_t field);
 
 /* A field of a KTX version 1 file's header. 0: the refusal's number, the first of 31, 32, 33, 34, 35 and 37 that holds; 1: width; 2: height;

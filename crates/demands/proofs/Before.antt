@@ -1,7 +1,7 @@
 -- What a file's header is refused by decides what is said of the file, and a header's number all that is answered. Assumes nothing.
 use mathlib.Core.Path.{_≡_, refl, sym, ap, subst, _∙_}
 use mathlib.Core.Bool.{Bool, true, false, cond, false≢true}
-use mathlib.Core.List.{List, _++_}
+use mathlib.Core.List.{List}
 use mathlib.Core.Logic.{_↔_}
 use Prim.Native.Nat.{ℕ}
 use lib.Dec.{T, eqb}
@@ -21,8 +21,7 @@ use Rattle.ktx.specs.Reading.{ktxSays}
 use Rattle.levels.specs.Calls.{Answered as AnsweredLevel}
 use Rattle.levels.specs.Levels.{levelsIn, levelOf, pictureOf, levelData as dataOfLevel}
 use Rattle.levels.specs.Refusals as level
-use Rattle.levels.specs.Refusals.{ktxHeaderChecks, callChecks, levelRefusal, decodeRefusal, decodedNumber}
-use Rattle.levels.specs.declared.Decoded.{Decoded}
+use Rattle.levels.specs.Refusals.{ktxHeaderChecks, callChecks, levelRefusal, decodeRefusal}
 use Rattle.levels.proofs.Whole.{numbered-words}
 use Rattle.capi.specs.Level.{describedField}
 use Rattle.capi.specs.Plate.{Wrote, fieldOf}

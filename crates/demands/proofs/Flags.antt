@@ -1,16 +1,15 @@
 -- A file with unknown flags is stopped, and nothing else is read otherwise than before. Assumes nothing.
-use mathlib.Core.Path.{_≡_, sym, ap, ap₂, subst, _∙_}
+use mathlib.Core.Path.{sym, subst}
 use mathlib.Core.Bool.{Bool, true, false, cond, not, _&&_}
-use mathlib.Core.List.{List, _++_}
+use mathlib.Core.List.{List}
 use Prim.Native.Nat.{ℕ}
-use lib.Dec.{T, eqb}
+use lib.Dec.{T}
 use lib.ListN.{length}
 use Rattle.facts.specs.Checks.{Check, firstOf}
 use Rattle.facts.proofs.Lists.{choice}
 use Rattle.files.proofs.Answers.{of-number, numbersPass}
 use Rattle.pvr.specs.AnyFlags.{anyFlagsChecks, anyFlagsRefusal, passes, StopsFlags}
-use Rattle.pvr.specs.Header.{unknownFlags, headerChecks, headerRefusal}
-use Rattle.pvr.specs.OneNumber.{oneNumberRefusal}
+use Rattle.pvr.specs.Header.{unknownFlags, headerChecks}
 use Rattle.pvr.specs.Reading.{pvrSays}
 use Rattle.pvr.proofs.AnyFlags.{passing, known-same, flags-stop, not-stopped, accepted, or-else}
 use Rattle.pvr.proofs.OneNumber.{header-which, none-same}

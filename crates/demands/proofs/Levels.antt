@@ -45,7 +45,7 @@ use Rattle.pvrtc.proofs.Unique.{one-written}
 use Rattle.convert.specs.Output as program
 use Rattle.convert.proofs.Either as says
 use Rattle.demands.specs.Footprint.{SameOutside}
-use Rattle.demands.specs.Levels.{headerBytes, mayDiffer, AlikeAt, SameButKeyValues, Placing, EachByItself, FirstLevel}
+use Rattle.demands.specs.Levels.{headerBytes, AlikeAt, SameButKeyValues, Placing, EachByItself, FirstLevel}
 use Rattle.demands.specs.LocalCalls.{blocksOf, changed, mostTouched}
 use Rattle.demands.specs.LocalFiles.{DamagedAt, OnlyNear}
 use Rattle.demands.specs.NoEffect.{SameButFlags}

@@ -55,13 +55,12 @@ pub record Placing : Type 0 where
 abbrev pub headerBytes : List ℕ → ℕ
 headerBytes file = cond (isKtx file) ktx.headerSize pvr.headerSize
 
--- Where two headers of which a level is read alike may differ: in KTX's type size and base format; in PVR's colour space and channel type, and in its flags,
--- of which only that they are known is read.
+-- Where the headers of two files that are read alike may differ: in KTX's type size and base format; in PVR's colour space, channel type and flags.
 abbrev pub mayDiffer : List ℕ → ℕ → Bool
 mayDiffer file i = cond (isKtx file) (ktx-same.hasNoEffect i) (pvr-same.mayDiffer i)
 
--- Two files that are alike in what level k is read from: the header, the level's own size word and its own bytes. They end at one place, or both behind
--- the level. Metadata or key/value bytes, every other size word and every other level may differ.
+-- Two files that are alike in what level k is read from: the header, of whose flags it is read that they are known, the level's own size word and its own
+-- bytes. They end at one place, or both behind the level. Metadata or key/value bytes, every other size word and every other level may differ.
 pub record AlikeAt (f g : List ℕ) (k : ℕ) : Type 0 where
   pub ends : (n : ℕ) → n ≤ endAt (levelsIn f) k → ltb (length f) n ≡ ltb (length g) n
   pub header : (i : ℕ) → i < headerBytes f → mayDiffer f i ≡ false → getD f i 0 ≡ getD g i 0

@@ -14,7 +14,8 @@ use Rattle.files.proofs.Fields.{same-depth}
 use Rattle.pvr.specs.declared.Header.{Header}
 use Rattle.pvr.specs.declared.Header.the-variants.{Plate, Refused}
 use Rattle.pvr.specs.declared.HeaderRefusal.{HeaderRefusal}
-use Rattle.pvr.specs.declared.HeaderRefusal.the-variants.{ShortHeader, NotPvr, UnknownFlags, UnknownFormat, DepthNotOne, SurfacesNotOne, FacesNotOne, NoLevel}
+use Rattle.pvr.specs.declared.HeaderRefusal.the-variants.{ShortHeader, NotPvr, UnknownFlags, UnknownFormat}
+use Rattle.pvr.specs.declared.HeaderRefusal.the-variants.{DepthNotOne, SurfacesNotOne, FacesNotOne, NoLevel}
 use Rattle.pvr.specs.Header.{widthField, heightField, isTwo, payloadOffset, headerChecks, headerRefusal, numberOf, headerNumber, HeaderRead}
 
 -- a refusal's number is not 0

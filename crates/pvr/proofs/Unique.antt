@@ -9,7 +9,8 @@ use Rattle.files.proofs.Fields.{same-depth}
 use Rattle.pvr.specs.declared.Header.{Header}
 use Rattle.pvr.specs.declared.Header.the-variants.{Plate, Refused}
 use Rattle.pvr.specs.declared.HeaderRefusal.{HeaderRefusal}
-use Rattle.pvr.specs.declared.HeaderRefusal.the-variants.{ShortHeader, NotPvr, UnknownFlags, UnknownFormat, DepthNotOne, SurfacesNotOne, FacesNotOne, NoLevel}
+use Rattle.pvr.specs.declared.HeaderRefusal.the-variants.{ShortHeader, NotPvr, UnknownFlags, UnknownFormat}
+use Rattle.pvr.specs.declared.HeaderRefusal.the-variants.{DepthNotOne, SurfacesNotOne, FacesNotOne, NoLevel}
 use Rattle.pvr.specs.Header.{numberOf, headerNumber, headerWidth, headerHeight, headerBits, headerPayload, HeaderRead}
 use Rattle.pvr.proofs.Answers.{number-above}
 
@@ -58,4 +59,5 @@ same-header (Refused f) (Refused g) n ew eh eb ea = ap Refused (same-refusal f g
 -- reading a header
 pub one-header : (file : List ℕ) (r s : Header) → HeaderRead file r → HeaderRead file s → r ≡ s
 one-header file r s a b =
-    same-header r s (a .number ∙ sym (b .number)) (a .width ∙ sym (b .width)) (a .height ∙ sym (b .height)) (a .bits ∙ sym (b .bits)) (a .payload ∙ sym (b .payload))
+    same-header r s (a .number ∙ sym (b .number)) (a .width ∙ sym (b .width)) (a .height ∙ sym (b .height)) (a .bits ∙ sym (b .bits))
+    (a .payload ∙ sym (b .payload))

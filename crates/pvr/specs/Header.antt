@@ -12,7 +12,8 @@ use Rattle.files.specs.Fields.{u32At, u64At, startsWith, bitsOf, unlessRefused}
 use Rattle.pvr.specs.declared.Header.{Header}
 use Rattle.pvr.specs.declared.Header.the-variants.{Plate, Refused}
 use Rattle.pvr.specs.declared.HeaderRefusal.{HeaderRefusal}
-use Rattle.pvr.specs.declared.HeaderRefusal.the-variants.{ShortHeader, NotPvr, UnknownFlags, UnknownFormat, DepthNotOne, SurfacesNotOne, FacesNotOne, NoLevel}
+use Rattle.pvr.specs.declared.HeaderRefusal.the-variants.{ShortHeader, NotPvr, UnknownFlags, UnknownFormat}
+use Rattle.pvr.specs.declared.HeaderRefusal.the-variants.{DepthNotOne, SurfacesNotOne, FacesNotOne, NoLevel}
 
 -- The header: 52 bytes.
 abbrev pub headerSize : ℕ
