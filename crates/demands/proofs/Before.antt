@@ -11,9 +11,6 @@ use Rattle.facts.proofs.Checks.{first-append, numbered-append}
 use Rattle.facts.proofs.Lists.{choice}
 use Rattle.files.specs.Reading.{Says}
 use Rattle.files.specs.declared.Reading.the-variants.{Plate, Refused}
-use Rattle.paint.specs.Sheet.{onSheet}
-use Rattle.pixel.specs.declared.ChannelOrder.{ChannelOrder}
-use Rattle.pvrtc.specs.Picture.{inOrder, sheetOf, pictureTexel}
 use Rattle.pvr.specs.Header.{headerChecks, HeaderAnswered}
 use Rattle.pvr.specs.Reading.{pvrPlate, pvrSays}
 use Rattle.ktx.specs.Header.{isKtx}
@@ -26,7 +23,7 @@ use Rattle.levels.proofs.Whole.{numbered-words}
 use Rattle.capi.specs.Level.{describedField}
 use Rattle.capi.specs.Plate.{Wrote, fieldOf}
 use Rattle.convert.specs.Output.{saysOf, storedIn, plateOf, levelData, ownChecks, programRefusal, written, Answered, Converted}
-use Rattle.demands.specs.Before.{pvrSaysBy, saysBy, programRefusalBy, levelChecksBy, levelRefusalBy, decodeRefusalBy, AnsweredBy}
+use Rattle.demands.specs.Before.{pvrSaysBy, saysBy, programRefusalBy, levelChecksBy, levelRefusalBy, decodeRefusalBy, withLevel, AnsweredBy}
 
 -- today's numbers are those by today's list
 module _ (file : List ℕ) where
@@ -133,8 +130,5 @@ module _ (head : List Check) (file : List ℕ) (t : T (numbered head)) (e : firs
           λ a. record { number = a .number ∙ n; words = rw n at (a .words) },
           λ b. record { number = b .number ∙ sym n; words = rw (sym n) at (b .words) },
         );
-        c-picture = λ order k old new r. both-ways (λ n. Wrote n (done order k old) old new r) (decode-same k (length old));
+        c-picture = λ order k old new r. both-ways (λ n. Wrote n (withLevel order file k old) old new r) (decode-same k (length old));
       }
-    where
-      done : ChannelOrder → ℕ → List ℕ → List ℕ
-      done order k old = onSheet (sheetOf (pictureOf file k)) (pictureTexel (inOrder order (pictureOf file k)) (dataOfLevel file k)) old

@@ -120,7 +120,7 @@ module _ (f g : List ℕ) (j z : ℕ) (s : DamagedAt (startAt (levelsIn f) j) f 
     elsewhere : AlikeAt f g k
     elsewhere = record { ends = λ n _. ends n; header = λ i h _. front i h; flags = λ _. same-flags; own = kept }
 
--- PVR's colour space and channel type are no part of what a level is read from, nor is which of the known flags there are
+-- PVR's colour space and channel type are no part of what a level is read from, and known flags are read alike
 flags-alike : (f g : List ℕ) → isKtx f ≡ false → SameButFlags f g → (k : ℕ) → AlikeAt f g k
 flags-alike f g e s k =
     let past = past-front f k in

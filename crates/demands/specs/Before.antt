@@ -56,6 +56,10 @@ abbrev pub decodeRefusalBy : List Check → List ℕ → ℕ → (room : ℕ) �
 decodeRefusalBy head file k room =
     firstOf (levelChecksBy head file k ++ callChecks (pictureOf file k) (length (dataOfLevel file k)) room)
 
+-- Lent words with level k of a file in front, in an order of channels.
+abbrev pub withLevel : ChannelOrder → List ℕ → ℕ → (old : List ℕ) → List ℕ
+withLevel order file k old = onSheet (sheetOf (pictureOf file k)) (pictureTexel (inOrder order (pictureOf file k)) (dataOfLevel file k)) old
+
 -- Every answer of today is the one by that list, in full.
 pub record AnsweredBy (head : List Check) (file : List ℕ) : Type 0 where
   -- The header's, what its reader tells the program, and C's fields.
@@ -72,8 +76,6 @@ pub record AnsweredBy (head : List Check) (file : List ℕ) : Type 0 where
   pub description : (k : ℕ) (r : Described) → LevelRead file k r ↔ AnsweredLevel (levelRefusalBy head file k) (levelOf file k) r
   pub c-description : (k field : ℕ) → levelField file k field ≡ fieldOf (levelRefusalBy head file k) (describedField (levelOf file k) field) field
   pub picture : (order : ChannelOrder) (k : ℕ) (old new : List ℕ) (r : Decoded) → LevelDecoded order file k old new r
-      ↔ Wrote (decodeRefusalBy head file k (length old))
-      (onSheet (sheetOf (pictureOf file k)) (pictureTexel (inOrder order (pictureOf file k)) (dataOfLevel file k)) old) old new (decodedNumber r)
+      ↔ Wrote (decodeRefusalBy head file k (length old)) (withLevel order file k old) old new (decodedNumber r)
   pub c-picture : (order : ChannelOrder) (k : ℕ) (old new : List ℕ) (n : ℕ) → WroteLevel order file k old new n
-      ↔ Wrote (decodeRefusalBy head file k (length old))
-      (onSheet (sheetOf (pictureOf file k)) (pictureTexel (inOrder order (pictureOf file k)) (dataOfLevel file k)) old) old new n
+      ↔ Wrote (decodeRefusalBy head file k (length old)) (withLevel order file k old) old new n

@@ -59,8 +59,8 @@ headerBytes file = cond (isKtx file) ktx.headerSize pvr.headerSize
 abbrev pub mayDiffer : List ℕ → ℕ → Bool
 mayDiffer file i = cond (isKtx file) (ktx-same.hasNoEffect i) (pvr-same.mayDiffer i)
 
--- Two files that are alike in what level k is read from: the header, of whose flags it is read that they are known, the level's own size word and its own
--- bytes. They end at one place, or both behind the level. Metadata or key/value bytes, every other size word and every other level may differ.
+-- Two files that are alike in what level k is read from: the header, with known flags in both or in neither, the level's own size word and its own bytes.
+-- They end at one place, or both behind the level. Metadata or key/value bytes, every other size word and every other level may differ.
 pub record AlikeAt (f g : List ℕ) (k : ℕ) : Type 0 where
   pub ends : (n : ℕ) → n ≤ endAt (levelsIn f) k → ltb (length f) n ≡ ltb (length g) n
   pub header : (i : ℕ) → i < headerBytes f → mayDiffer f i ≡ false → getD f i 0 ≡ getD g i 0
@@ -85,7 +85,7 @@ pub record EachByItself : Type 0 where
   pub alike : (f g : List ℕ) (k : ℕ) → AlikeAt f g k → SameLevel f g k
   -- What follows the level has none.
   pub later : (file more : List ℕ) (k : ℕ) → endAt (levelsIn file) k ≤ length file → SameLevel file (file ++ more) k
-  -- PVR's colour space and channel type have none, nor has it which of the known flags there are.
+  -- PVR's colour space and channel type have none, and known flags are read alike.
   pub flags : (f g : List ℕ) → isKtx f ≡ false → SameButFlags f g → (k : ℕ) → SameLevel f g k
   -- Nor have KTX's type size, base format and the key/value bytes themselves. Its levels, which nothing else reads, are read here.
   pub key-values : (f g : List ℕ) → isKtx f ≡ true → SameButKeyValues f g → (k : ℕ) → SameLevel f g k

@@ -32,7 +32,7 @@ pub record SameProgram (f g : List ℕ) : Type 0 where
   pub laid : (image image' out out' : List ℕ) (r : ℕ) → Converted f image image' out out' r ↔ Converted g image image' out out' r
   pub laid-in-room : (image image' out out' : List ℕ) (r : ℕ) → ConvertedInRoom f image image' out out' r ↔ ConvertedInRoom g image image' out out' r
 
--- That has no effect: on the header's answer, on a field that C asks for, and on the program where it takes the file as PVR.
+-- The difference has no effect: on the header's answer, on a field that C asks for, and on the program where it takes the file as PVR.
 pub record NoEffect (f g : List ℕ) : Type 0 where
   pub header : (r : PvrHeader) → PvrHeaderRead f r ↔ PvrHeaderRead g r
   pub field : (k : ℕ) → headerField f k ≡ headerField g k

@@ -1,4 +1,4 @@
--- Colour space, channel type, which of the known flags there are and whatever follows the header have no effect on how it is read. Assumes nothing.
+-- Colour space, channel type and whatever follows the header have no effect on how it is read, and known flags are read alike. Assumes nothing.
 use mathlib.Core.Path.{_≡_, refl, sym, ap, _∙_}
 use mathlib.Core.Bool.{Bool, true, false, not}
 use mathlib.Core.List.{List, _++_}
