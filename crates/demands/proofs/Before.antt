@@ -1,7 +1,7 @@
 -- What a file's header is refused by decides what is said of the file, and a header's number all that is answered. Assumes nothing.
 use mathlib.Core.Path.{_≡_, refl, sym, ap, subst, _∙_}
 use mathlib.Core.Bool.{Bool, true, false, cond, false≢true}
-use mathlib.Core.List.{List}
+use mathlib.Core.List.{List, _++_}
 use mathlib.Core.Logic.{_↔_}
 use Prim.Native.Nat.{ℕ}
 use lib.Dec.{T, eqb}
@@ -9,7 +9,6 @@ use lib.ListN.{length}
 use Rattle.facts.specs.Checks.{Check, firstOf, numbered}
 use Rattle.facts.proofs.Checks.{first-append, numbered-append}
 use Rattle.facts.proofs.Lists.{choice}
-use Rattle.files.specs.Reading.{Says}
 use Rattle.files.specs.declared.Reading.the-variants.{Plate, Refused}
 use Rattle.pvr.specs.Header.{headerChecks, HeaderAnswered}
 use Rattle.pvr.specs.Reading.{pvrPlate, pvrSays}
@@ -23,13 +22,20 @@ use Rattle.levels.proofs.Whole.{numbered-words}
 use Rattle.capi.specs.Level.{describedField}
 use Rattle.capi.specs.Plate.{Wrote, fieldOf}
 use Rattle.convert.specs.Output.{saysOf, storedIn, plateOf, levelData, ownChecks, programRefusal, written, Answered, Converted}
-use Rattle.demands.specs.Before.{pvrSaysBy, saysBy, programRefusalBy, levelChecksBy, levelRefusalBy, decodeRefusalBy, withLevel, AnsweredBy}
+use Rattle.demands.specs.Before.{headBy, programRefusalBy, levelChecksBy, levelRefusalBy, decodeRefusalBy, withLevel, AnsweredBy}
 
 -- today's numbers are those by today's list
 module _ (file : List ℕ) where
   pub program-today : programRefusal file ≡ programRefusalBy (headerChecks file) file
   unfolding saysOf
-  program-today = refl
+  program-today = by (isKtx file)
+    where
+      own : List Check
+      own = ownChecks (storedIn file) (length (levelData file))
+
+      by : (t : Bool) → firstOf (cond t (ktxSays file) (pvrSays file) .refusals ++ own) ≡ firstOf (cond t (ktxSays file .refusals) (headerChecks file) ++ own)
+      by true = refl
+      by false = refl
 
   pub level-today : (k : ℕ) → levelRefusal file k ≡ levelRefusalBy (headerChecks file) file k
   unfolding level.headerChecks
@@ -39,32 +45,34 @@ module _ (file : List ℕ) where
   unfolding level.headerChecks
   decode-today k room = refl
 
--- the number of a header of either kind, as the program and a level have it
-abbrev pub saidBy : List Check → List ℕ → ℕ
-saidBy head file = firstOf (saysBy head file .refusals)
+-- the number of a header of either kind
+abbrev pub saidBy : (ktx head : List Check) → List ℕ → ℕ
+saidBy ktx head file = firstOf (headBy ktx head file)
 
-abbrev pub foundBy : List Check → List ℕ → ℕ
-foundBy head file = firstOf (cond (isKtx file) (ktxHeaderChecks file) head)
+-- what a KTX file's is refused by in the program
+abbrev pub ktxSaid : List ℕ → List Check
+ktxSaid file = ktxSays file .refusals
 
 -- each number is the header's, or else what the rest says
 module _ (head : List Check) (file : List ℕ) (t : T (numbered head)) where
-  pub program-by : programRefusalBy head file
-      ≡ cond (eqb (saidBy head file) 0) (firstOf (ownChecks (storedIn file) (length (levelData file)))) (saidBy head file)
-  program-by = first-append (saysBy head file .refusals) (ownChecks (storedIn file) (length (levelData file)))
-      (choice (λ (s : Says). T (numbered (s .refusals))) (isKtx file) (λ _. tt) (λ _. t))
+  numbered-head : (ktx : List Check) → T (numbered ktx) → T (numbered (headBy ktx head file))
+  numbered-head ktx h = choice (λ (l : List Check). T (numbered l)) (isKtx file) (λ _. h) (λ _. t)
 
-  numbered-head : T (numbered (cond (isKtx file) (ktxHeaderChecks file) head))
-  numbered-head = choice (λ (l : List Check). T (numbered l)) (isKtx file) (λ _. tt) (λ _. t)
+  pub program-by : programRefusalBy head file
+      ≡ cond (eqb (saidBy (ktxSaid file) head file) 0) (firstOf (ownChecks (storedIn file) (length (levelData file)))) (saidBy (ktxSaid file) head file)
+  program-by =
+      first-append (headBy (ktxSaid file) head file) (ownChecks (storedIn file) (length (levelData file))) (numbered-head (ktxSaid file) tt)
 
   pub level-by : (k : ℕ) → levelRefusalBy head file k
-      ≡ cond (eqb (foundBy head file) 0) (firstOf (level.ownChecks file (levelsIn file) k)) (foundBy head file)
-  level-by k = first-append (cond (isKtx file) (ktxHeaderChecks file) head) (level.ownChecks file (levelsIn file) k) numbered-head
+      ≡ cond (eqb (saidBy (ktxHeaderChecks file) head file) 0) (firstOf (level.ownChecks file (levelsIn file) k)) (saidBy (ktxHeaderChecks file) head file)
+  level-by k =
+      first-append (headBy (ktxHeaderChecks file) head file) (level.ownChecks file (levelsIn file) k) (numbered-head (ktxHeaderChecks file) tt)
 
   pub decode-by : (k room : ℕ) → decodeRefusalBy head file k room
       ≡ cond (eqb (levelRefusalBy head file k) 0) (firstOf (callChecks (pictureOf file k) (length (dataOfLevel file k)) room)) (levelRefusalBy head file k)
   decode-by k room =
       first-append (levelChecksBy head file k) (callChecks (pictureOf file k) (length (dataOfLevel file k)) room)
-      (numbered-append (cond (isKtx file) (ktxHeaderChecks file) head) _ numbered-head (numbered-words file (levelsIn file) k))
+      (numbered-append (headBy (ktxHeaderChecks file) head file) _ (numbered-head (ktxHeaderChecks file) tt) (numbered-words file (levelsIn file) k))
 
 -- what is met with a number is met with another that equals it
 both-ways : (Q : ℕ → Type 0) {n m : ℕ} → n ≡ m → Q n ↔ Q m
@@ -72,30 +80,23 @@ both-ways Q e = (subst Q e, subst Q (sym e))
 
 -- so where the header's number is the same, all is
 module _ (head : List Check) (file : List ℕ) (t : T (numbered head)) (e : firstOf (headerChecks file) ≡ firstOf head) where
-  said-same : saidBy (headerChecks file) file ≡ saidBy head file
-  said-same = by (isKtx file)
+  said-same : (ktx : List Check) → saidBy ktx (headerChecks file) file ≡ saidBy ktx head file
+  said-same ktx = by (isKtx file)
     where
-      by : (k : Bool) → firstOf (cond k (ktxSays file) (pvrSays file) .refusals) ≡ firstOf (cond k (ktxSays file) (pvrSaysBy head file) .refusals)
-      by true = refl
-      by false = e
-
-  found-same : foundBy (headerChecks file) file ≡ foundBy head file
-  found-same = by (isKtx file)
-    where
-      by : (k : Bool) → firstOf (cond k (ktxHeaderChecks file) (headerChecks file)) ≡ firstOf (cond k (ktxHeaderChecks file) head)
+      by : (k : Bool) → firstOf (cond k ktx (headerChecks file)) ≡ firstOf (cond k ktx head)
       by true = refl
       by false = e
 
   program-same : programRefusal file ≡ programRefusalBy head file
   program-same =
       program-today file ∙ program-by (headerChecks file) file tt
-      ∙ ap (λ (n : ℕ). cond (eqb n 0) (firstOf (ownChecks (storedIn file) (length (levelData file)))) n) said-same
+      ∙ ap (λ (n : ℕ). cond (eqb n 0) (firstOf (ownChecks (storedIn file) (length (levelData file)))) n) (said-same (ktxSaid file))
       ∙ sym (program-by head file t)
 
   level-same-by : (k : ℕ) → levelRefusalBy (headerChecks file) file k ≡ levelRefusalBy head file k
   level-same-by k =
       level-by (headerChecks file) file tt k
-      ∙ ap (λ (n : ℕ). cond (eqb n 0) (firstOf (level.ownChecks file (levelsIn file) k)) n) found-same
+      ∙ ap (λ (n : ℕ). cond (eqb n 0) (firstOf (level.ownChecks file (levelsIn file) k)) n) (said-same (ktxHeaderChecks file))
       ∙ sym (level-by head file t k)
 
   level-same : (k : ℕ) → levelRefusal file k ≡ levelRefusalBy head file k

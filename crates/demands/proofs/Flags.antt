@@ -14,35 +14,23 @@ use Rattle.pvr.specs.Reading.{pvrSays}
 use Rattle.pvr.proofs.AnyFlags.{passing, known-same, flags-stop, not-stopped, accepted, or-else}
 use Rattle.pvr.proofs.OneNumber.{header-which, none-same}
 use Rattle.ktx.specs.Header.{isKtx}
-use Rattle.ktx.specs.Reading.{ktxSays}
 use Rattle.levels.specs.Levels.{levelsIn, pictureOf, levelData as dataOfLevel}
 use Rattle.levels.specs.Refusals as level
 use Rattle.levels.specs.Refusals.{ktxHeaderChecks, sizeWordChecks, callChecks, levelRefusal, decodeRefusal}
 use Rattle.convert.specs.Output.{storedIn, levelData, ownChecks, programRefusal}
-use Rattle.demands.specs.Before.{pvrSaysBy, programRefusalBy, levelRefusalBy, decodeRefusalBy}
+use Rattle.demands.specs.Before.{programRefusalBy, levelRefusalBy, decodeRefusalBy}
 use Rattle.demands.specs.Flags.{hasUnknownFlags, FlagsStop}
-use Rattle.demands.proofs.Before.{saidBy, foundBy, program-today, level-today, decode-today, program-by, level-by, decode-by, answered-by}
+use Rattle.demands.proofs.Before.{saidBy, ktxSaid, program-today, level-today, decode-today, program-by, level-by, decode-by, answered-by}
 
 module _ (file : List ℕ) where
   abbrev before : List Check
   before = anyFlagsChecks file
 
-  -- the header of either kind, as the program and a level have it
-  said : StopsFlags (hasUnknownFlags file) (saidBy (headerChecks file) file) (saidBy before file)
-  said = by (isKtx file)
+  -- the header of either kind, where `ktx` are the refusals of a KTX file's
+  said : (ktx : List Check) → StopsFlags (hasUnknownFlags file) (saidBy ktx (headerChecks file) file) (saidBy ktx before file)
+  said ktx = by (isKtx file)
     where
-      by : (t : Bool)
-          → StopsFlags (not t && unknownFlags file) (firstOf (cond t (ktxSays file) (pvrSays file) .refusals))
-          (firstOf (cond t (ktxSays file) (pvrSaysBy before file) .refusals))
-      by true = known-same
-      by false = flags-stop file
-
-  found : StopsFlags (hasUnknownFlags file) (foundBy (headerChecks file) file) (foundBy before file)
-  found = by (isKtx file)
-    where
-      by : (t : Bool)
-          → StopsFlags (not t && unknownFlags file) (firstOf (cond t (ktxHeaderChecks file) (headerChecks file)))
-          (firstOf (cond t (ktxHeaderChecks file) before))
+      by : (t : Bool) → StopsFlags (not t && unknownFlags file) (firstOf (cond t ktx (headerChecks file))) (firstOf (cond t ktx before))
       by true = known-same
       by false = flags-stop file
 
@@ -50,7 +38,7 @@ module _ (file : List ℕ) where
   program : StopsFlags (hasUnknownFlags file) (programRefusal file) (programRefusalBy before file)
   program =
       let own : List Check = ownChecks (storedIn file) (length (levelData file)) in
-      rw (program-today file, program-by (headerChecks file) file tt, program-by before file tt) (or-else said (firstOf own) (passing own tt))
+      rw (program-today file, program-by (headerChecks file) file tt, program-by before file tt) (or-else (said (ktxSaid file)) (firstOf own) (passing own tt))
 
   -- a level's, which has a size word or not, and that of its picture
   words-pass : (k : ℕ) → T (numbersPass passes (sizeWordChecks file (levelsIn file) k))
@@ -60,7 +48,7 @@ module _ (file : List ℕ) where
   description-by : (k : ℕ) → StopsFlags (hasUnknownFlags file) (levelRefusalBy (headerChecks file) file k) (levelRefusalBy before file k)
   description-by k =
       let own : List Check = level.ownChecks file (levelsIn file) k in
-      rw (level-by (headerChecks file) file tt k, level-by before file tt k) (or-else found (firstOf own) (passing own (words-pass k)))
+      rw (level-by (headerChecks file) file tt k, level-by before file tt k) (or-else (said (ktxHeaderChecks file)) (firstOf own) (passing own (words-pass k)))
 
   description : (k : ℕ) → StopsFlags (hasUnknownFlags file) (levelRefusal file k) (levelRefusalBy before file k)
   description k = rw (level-today file k) (description-by k)

@@ -15,11 +15,10 @@ use Rattle.pvr.specs.Reading.{pvrSays}
 use Rattle.pvr.proofs.AnyFlags.{flags-stop, not-stopped}
 use Rattle.pvr.proofs.OneNumber.{same, header-which, none-same, or-else}
 use Rattle.ktx.specs.Header.{isKtx}
-use Rattle.ktx.specs.Reading.{ktxSays}
 use Rattle.convert.specs.Output.{storedIn, levelData, ownChecks, programRefusal}
-use Rattle.demands.specs.Before.{pvrSaysBy, programRefusalBy}
+use Rattle.demands.specs.Before.{programRefusalBy}
 use Rattle.demands.specs.WhichField.{WhichField, EachField}
-use Rattle.demands.proofs.Before.{saidBy, program-today, program-by, answered-by}
+use Rattle.demands.proofs.Before.{saidBy, ktxSaid, program-today, program-by, answered-by}
 
 -- a list with no number of a field says none
 noField : ℕ → Bool
@@ -38,13 +37,12 @@ module _ (file : List ℕ) (none : headerRefusal file ≡ 18 → ⊥) where
   head = subst (λ n. SaysWhich n (oneNumberRefusal file)) (sym (not-stopped (flags-stop file) none)) (header-which file)
 
   -- the header of either kind, today and before
-  said : SaysWhich (saidBy (headerChecks file) file) (saidBy before file)
+  said : SaysWhich (saidBy (ktxSaid file) (headerChecks file) file) (saidBy (ktxSaid file) before file)
   unfolding noField
   said = by (isKtx file)
     where
-      by : (t : Bool)
-          → SaysWhich (firstOf (cond t (ktxSays file) (pvrSays file) .refusals)) (firstOf (cond t (ktxSays file) (pvrSaysBy before file) .refusals))
-      by true = same (says-no-field (ktxSays file .refusals) tt)
+      by : (t : Bool) → SaysWhich (firstOf (cond t (ktxSaid file) (headerChecks file))) (firstOf (cond t (ktxSaid file) before))
+      by true = same (says-no-field (ktxSaid file) tt)
       by false = head
 
   program : SaysWhich (programRefusal file) (programRefusalBy before file)

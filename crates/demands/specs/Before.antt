@@ -34,20 +34,20 @@ fieldBy head file k = fieldOf (firstOf head) (plateField (widthField file) (heig
 abbrev pub pvrSaysBy : List Check → List ℕ → Says
 pvrSaysBy head file = record { refusals = head; plate = pvrPlate file }
 
--- What a file said, read as what it is taken for. A KTX file said what it says today.
-abbrev pub saysBy : List Check → List ℕ → Says
-saysBy head file = cond (isKtx file) (ktxSays file) (pvrSaysBy head file)
+-- The refusals of a header, read as what the file is taken for. A KTX file's, `ktx`, are those of today.
+abbrev pub headBy : (ktx head : List Check) → List ℕ → List Check
+headBy ktx head file = cond (isKtx file) ktx head
 
 -- The program's refusals, in their order: the header's, and its own, which are those of today; and the number that it said.
 abbrev pub programChecksBy : List Check → List ℕ → List Check
-programChecksBy head file = saysBy head file .refusals ++ ownChecks (storedIn file) (length (levelData file))
+programChecksBy head file = headBy (ktxSays file .refusals) head file ++ ownChecks (storedIn file) (length (levelData file))
 
 abbrev pub programRefusalBy : List Check → List ℕ → ℕ
 programRefusalBy head file = firstOf (programChecksBy head file)
 
 -- The refusals of level k: the header's, and its own, which are those of today; of decoding it, and then the block call's.
 abbrev pub levelChecksBy : List Check → List ℕ → ℕ → List Check
-levelChecksBy head file k = cond (isKtx file) (ktxHeaderChecks file) head ++ levelOwnChecks file (levelsIn file) k
+levelChecksBy head file k = headBy (ktxHeaderChecks file) head file ++ levelOwnChecks file (levelsIn file) k
 
 abbrev pub levelRefusalBy : List Check → List ℕ → ℕ → ℕ
 levelRefusalBy head file k = firstOf (levelChecksBy head file k)

@@ -6,7 +6,7 @@ use Prim.Native.Nat.{ℕ, _+_, _*_, _/_, _%_, _<_}
 use native.Mathlib.Omega.{arith}
 use lib.ListN.{drop}
 use lib.Seq.{getD-drop}
-use Rattle.grid.specs.Grid.{half, blockWidth, blocks, beside}
+use Rattle.grid.specs.Grid.{half, blockWidth, beside}
 use Rattle.grid.proofs.Powers.{power-above}
 use Rattle.grid.proofs.Torus.{beside-own, beside-below}
 use Rattle.word.specs.Word.{wordOf}

@@ -21,6 +21,13 @@ struct Case {
     word: u32,
 }
 
+// What a row of numbers stands for: two refusals of a kind's order, or flags.
+enum Run {
+    PvrPairs,
+    KtxPairs,
+    Flags,
+}
+
 fn main() {
     let mut bytes = [0u8; 6000];
     print_all(&mut bytes);
@@ -32,9 +39,9 @@ fn print_all(bytes: &mut [u8]) {
     print_counts(bytes);
     print_sides(bytes);
     print_words(bytes);
-    print_pairs(false, bytes);
-    print_pairs(true, bytes);
-    print_flags(bytes);
+    print_run(Run::PvrPairs, 225, bytes);
+    print_run(Run::KtxPairs, 225, bytes);
+    print_run(Run::Flags, 24, bytes);
     print_differing(bytes);
 }
 
@@ -184,14 +191,23 @@ fn less(n: usize, by: usize) -> usize {
     if n < by { 0 } else { n - by }
 }
 
-// Every two refusals of an order at once: the row's two digits to the base of fifteen are their places in it. Of each two, one row of the two
-// is taken.
-fn print_pairs(ktx: bool, bytes: &mut [u8]) {
-    for row in 0..225u64 {
-        print_pair(ktx, row, bytes);
+// The rows below n of a run, one after another.
+fn print_run(run: Run, n: u64, bytes: &mut [u8]) {
+    for row in 0..n {
+        print_row(run, row, bytes);
     }
 }
 
+fn print_row(run: Run, row: u64, bytes: &mut [u8]) {
+    match run {
+        Run::PvrPairs => print_pair(false, row, bytes),
+        Run::KtxPairs => print_pair(true, row, bytes),
+        Run::Flags => print_flags(row, bytes),
+    }
+}
+
+// Every two refusals of an order at once: the row's two digits to the base of fifteen are their places in it. Of each two, one row of the two
+// is taken.
 fn print_pair(ktx: bool, row: u64, bytes: &mut [u8]) {
     let i = (row / 15 % 15) as usize;
     let j = (row % 15) as usize;
@@ -314,13 +330,7 @@ fn bring(bytes: &mut [u8], fault: u64) {
 
 // Flags of a PVR file: alone, with a wrong first byte before them, with a wrong format after them, and with both. The row has a bit for each of the
 // two, and above them the flags' place in the list.
-fn print_flags(bytes: &mut [u8]) {
-    for row in 0..24u64 {
-        print_flags_row(row, bytes);
-    }
-}
-
-fn print_flags_row(row: u64, bytes: &mut [u8]) {
+fn print_flags(row: u64, bytes: &mut [u8]) {
     let i = (row / 4 % 6) as usize;
     let t = tables::FLAGS;
     print_flagged(t[i], row % 4, bytes);

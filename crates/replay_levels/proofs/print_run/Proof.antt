@@ -1,22 +1,22 @@
--- `replay_levels::print_pairs` is safe and ends. Assumes nothing.
+-- `replay_levels::print_run` is safe and ends. Assumes nothing.
 use mathlib.Core.Path.{_≡_}
 use Prim.Native.Nat.{_-_, _≤_}
 use lib.ListN.{length}
 use borrow.Author.Needs.{needs}
-use Rattle.replay_levels.proofs.print_pairs.Statement.{statement}
-use Rattle.replay_levels.proofs.print_pairs.Tie as tie
+use Rattle.replay_levels.proofs.print_run.Statement.{statement}
+use Rattle.replay_levels.proofs.print_run.Tie as tie
 
 abbrev Inv-loop : tie.InvT-loop
-Inv-loop ktx bytes₀ row₀ bytes row = (row ≤ 225) × (length bytes ≡ length bytes₀)
+Inv-loop run n bytes₀ row₀ bytes row = (row ≤ n) × (length bytes ≡ length bytes₀)
 
 abbrev μ-loop : tie.MeasureT-loop
-μ-loop ktx bytes₀ row₀ bytes row = 225 - row
+μ-loop run n bytes₀ row₀ bytes row = n - row
 
 loop-holds : tie.Need-loop-holds Inv-loop μ-loop
 loop-holds c = search needs
 
-print-pair-requires : tie.Need-print-pair-requires Inv-loop μ-loop
-print-pair-requires c κs = search needs
+print-row-requires : tie.Need-print-row-requires Inv-loop μ-loop
+print-row-requires c κs = search needs
 
 add-row : tie.Need-add-row Inv-loop μ-loop
 add-row c = search needs
@@ -33,14 +33,14 @@ same-length c = search needs
 returns : tie.Need-returns Inv-loop μ-loop
 returns c = search needs
 
-pub print-pairs-spec : {M : Type 1} → statement M
-print-pairs-spec =
+pub print-run-spec : {M : Type 1} → statement M
+print-run-spec =
     tie.close
     (tie.spec
     Inv-loop
     μ-loop
     loop-holds
-    print-pair-requires
+    print-row-requires
     add-row
     loop-less
     loop-again
