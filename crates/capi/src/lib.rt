@@ -1,4 +1,6 @@
 // What C calls: include/plate.h declares these functions. A slice is a pointer and a length in C.
+#![tactic(auto)]
+
 ghost use Rattle.std.specs.Prelude.{◌≡◌, cond, eqb};
 ghost use Rattle.files.specs.Fields.{bits_of};
 ghost use Rattle.pvrtc.specs.Refusals.{decoded_number};

@@ -1,4 +1,6 @@
 // What the program `plate` writes for a file: a picture as a TGA, or the line of a refusal.
+#![tactic(auto)]
+
 ghost use Rattle.std.specs.Prelude.{◌≡◌, ◌+◌, ◌*◌, ◌/◌, ◌%◌, ◌<◌, ◌≤◌, length, get_or};
 ghost use Rattle.facts.specs.Checks.{first_of};
 ghost use Rattle.paint.specs.Paint.{painted};

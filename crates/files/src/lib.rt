@@ -1,17 +1,19 @@
 // What the readers of files share: a file's first bytes, its little-endian numbers and their bytes, and the face that they show to the program.
+#![tactic(auto)]
+
 ghost use Rattle.std.specs.Prelude.{◌≡◌, ◌+◌, ◌<◌, ◌≤◌, get_or};
 ghost use Rattle.files.specs.Fields.{u32_at, u64_at, byte_of, starts_with};
 ghost use Rattle.files.specs.Reading.{fits_size};
 
 // The size that a file says its plate's data has, where its kind says one.
-#[derive(Drop)]
+#[derive(Clone, Copy)]
 pub enum Size {
     Unsaid,
     Bytes(u32),
 }
 
 // A plate as a file stores it, whatever kind of file that is.
-#[derive(Drop)]
+#[derive(Clone, Copy)]
 pub struct Stored {
     pub width: usize,
     pub height: usize,
@@ -26,7 +28,7 @@ pub struct Stored {
 }
 
 // What reading a file answers: its plate, or the number of its header's refusal.
-#[derive(Drop)]
+#[derive(Clone, Copy)]
 pub enum Reading {
     Plate(Stored),
     Refused(u64),

@@ -1,4 +1,6 @@
 // The grid of blocks: how many there are, where each one's word stands, and which are its neighbours.
+#![tactic(auto)]
+
 mod table;
 
 ghost use Rattle.std.specs.Prelude.{◌≡◌, ◌<◌, ◌≤◌};
@@ -8,7 +10,7 @@ ghost use Rattle.grid.specs.Words.{word_bytes};
 pub use table::{morton_index_by_table, spread, spread_table};
 
 // The blocks that hold a picture's words: how many across and down, and the depth that they are read at.
-#[derive(Drop)]
+#[derive(Clone, Copy)]
 pub struct Grid {
     pub across: usize,
     pub down: usize,

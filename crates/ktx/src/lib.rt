@@ -1,4 +1,6 @@
 // A KTX version 1 file: its header, and the picture that it holds.
+#![tactic(auto)]
+
 mod decoder;
 mod reader;
 
@@ -9,7 +11,7 @@ pub use reader::{
 };
 
 // Why a header is refused, in document 02's words.
-#[derive(Drop)]
+#[derive(Clone, Copy)]
 pub enum HeaderRefusal {
     ShortHeader,
     NotKtx,
@@ -20,14 +22,14 @@ pub enum HeaderRefusal {
 }
 
 // What reading the header's fields answers: the plate that they describe, cut short or not, or a refusal.
-#[derive(Drop)]
+#[derive(Clone, Copy)]
 pub enum Fields {
     Plate(Stored),
     Refused(HeaderRefusal),
 }
 
 // What reading a header answers.
-#[derive(Drop)]
+#[derive(Clone, Copy)]
 pub enum Header {
     Plate {
         width: usize,
@@ -40,7 +42,7 @@ pub enum Header {
 }
 
 // What decoding a file answers: the header's refusal, that the file says another size than its picture needs, or the block call's refusal.
-#[derive(Drop)]
+#[derive(Clone, Copy)]
 pub enum Decoded {
     Done,
     Unread(HeaderRefusal),

@@ -10,7 +10,7 @@ use crate::{Fields, Header, HeaderRefusal};
 use files::{Reading, Size, Stored};
 
 // What the header's fields say by themselves.
-#[derive(Drop)]
+#[derive(Clone, Copy)]
 enum Checked {
     Fine,
     Refused(HeaderRefusal),

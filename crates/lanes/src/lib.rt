@@ -1,5 +1,7 @@
 // One row of blocks, decoded fast: four channels as lanes of one number, and a window of three columns of words that slides along the
 // row, each parsed once. The order of channels is that of the lanes: past the reading of a colour nothing asks for it.
+#![tactic(auto)]
+
 mod colors;
 mod filling;
 mod places;
@@ -16,14 +18,14 @@ pub use row_2bpp::decode_block_row_2bpp;
 pub use row_4bpp::decode_block_row_4bpp;
 
 // Three words of a column, the one above a block, its own and the one below, summed for rows 0 to 3 of the block: colour A and colour B.
-#[derive(Drop)]
+#[derive(Clone, Copy)]
 pub struct Column {
     pub a: [u64; 4],
     pub b: [u64; 4],
 }
 
 // One row of three columns, the one before a block, its own and the next one: colour A and colour B.
-#[derive(Drop)]
+#[derive(Clone, Copy)]
 pub struct Sums {
     pub left_a: u64,
     pub own_a: u64,
@@ -34,7 +36,7 @@ pub struct Sums {
 }
 
 // The smaller side of the grid, and what the rows of blocks above, own and below add to an address.
-#[derive(Drop)]
+#[derive(Clone, Copy)]
 pub struct RowAddresses {
     pub smaller: usize,
     pub above: usize,
@@ -43,21 +45,21 @@ pub struct RowAddresses {
 }
 
 // A word's modulation, and where its mode starts in the two tables.
-#[derive(Drop)]
+#[derive(Clone, Copy)]
 pub struct Codes {
     pub modulation: u64,
     pub start: u64,
 }
 
 // Four rows of eight weights, each weight a byte.
-#[derive(Drop)]
+#[derive(Clone, Copy)]
 pub struct Weights {
     pub rows: [u64; 4],
 }
 
 // How a block is filled: the rows of weights over its upper and lower edge, its mode, and how often the weights beside a texel count,
 // and those above and below it.
-#[derive(Drop)]
+#[derive(Clone, Copy)]
 pub struct FillRule {
     pub above: u64,
     pub below: u64,

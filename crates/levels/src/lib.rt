@@ -1,4 +1,6 @@
 // All levels of a plate: level k of a PVR or a KTX file, described and decoded.
+#![tactic(auto)]
+
 mod check;
 mod decoder;
 mod kinds;
@@ -10,7 +12,7 @@ pub use decoder::{decode_level, decoded_number};
 pub use reader::read_level;
 
 // Why a level is refused: by a file's header, by the sides, by the number of levels, by a size word or by the block call.
-#[derive(Drop)]
+#[derive(Clone, Copy)]
 pub enum Refusal {
     Pvr(pvr::HeaderRefusal),
     Ktx(ktx::HeaderRefusal),
@@ -21,7 +23,7 @@ pub enum Refusal {
 }
 
 // One level of a plate: its sides and depth, where its bytes start in the file, and how many it needs.
-#[derive(Drop)]
+#[derive(Clone, Copy)]
 pub struct Level {
     pub width: usize,
     pub height: usize,
@@ -31,21 +33,21 @@ pub struct Level {
 }
 
 // What reading a level's description answers.
-#[derive(Drop)]
+#[derive(Clone, Copy)]
 pub enum Described {
     Level(Level),
     Refused(Refusal),
 }
 
 // What decoding a level answers.
-#[derive(Drop)]
+#[derive(Clone, Copy)]
 pub enum Decoded {
     Done,
     Refused(Refusal),
 }
 
 // What a file says of its plate's levels, whatever kind of file it is.
-#[derive(Drop)]
+#[derive(Clone, Copy)]
 pub struct Levels {
     // The sides of the first one.
     pub width: usize,
@@ -60,7 +62,7 @@ pub struct Levels {
 }
 
 // What a file's header answers of its levels.
-#[derive(Drop)]
+#[derive(Clone, Copy)]
 enum Found {
     Levels(Levels),
     Refused(Refusal),

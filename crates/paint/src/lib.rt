@@ -1,10 +1,12 @@
 // Words laid into lent words: sheets and their rows and columns, and a block's buffer laid on one.
+#![tactic(auto)]
+
 ghost use Rattle.std.specs.Prelude.{◌≡◌, ◌+◌, ◌*◌, ◌≤◌, ◌<◌, length, get_or};
 ghost use Rattle.paint.specs.Paint.{painted};
 ghost use Rattle.paint.specs.Sheet.{on_sheet, rows_from, columns_from, Fits, largest};
 
 // Where texels go among lent words: texel (x, y) to word start + y * stride + x, for x below the width and y below the height.
-#[derive(Drop)]
+#[derive(Clone, Copy)]
 pub struct Sheet {
     pub start: usize,
     pub stride: usize,

@@ -1,9 +1,11 @@
 // A texel as four channels, and as a word.
+#![tactic(auto)]
+
 ghost use Rattle.std.specs.Prelude.{◌≡◌};
 ghost use Rattle.pixel.specs.Pixel.{word, packed};
 
 // Which of a word's bytes are blue and red: the low and the third one, or the other way round. Green is the second and alpha the fourth.
-#[derive(Drop)]
+#[derive(Clone, Copy)]
 pub enum ChannelOrder {
     BlueFirst,
     RedFirst,

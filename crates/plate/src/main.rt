@@ -1,4 +1,6 @@
 // Reads a PVR or KTX file on standard input, and writes its picture as a TGA on standard output, or the line of a refusal.
+#![tactic(auto)]
+
 ghost use Rattle.std.specs.Prelude.{◌≡◌, ◌-◌, ◌<◌, length};
 ghost use Rattle.convert.specs.Output.{Room, read_limit};
 ghost use Rattle.plate.specs.Input.{meant, within, Stopped, Answers};
@@ -7,7 +9,7 @@ ghost use Rattle.plate.specs.Input.{meant, within, Stopped, Answers};
 const READ_LIMIT: usize = 36932;
 
 // What one read gives: so many bytes, that the input has ended, or that it failed.
-#[derive(Drop)]
+#[derive(Clone, Copy)]
 enum Read {
     Bytes(usize),
     End,
@@ -15,7 +17,7 @@ enum Read {
 }
 
 // What reading gives: how many bytes stand in the buffer, and what the last read gave.
-#[derive(Drop)]
+#[derive(Clone, Copy)]
 struct Input {
     count: usize,
     last: Read,

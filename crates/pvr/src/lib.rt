@@ -1,4 +1,6 @@
 // The header of a PVR version 3 file.
+#![tactic(auto)]
+
 ghost use Rattle.std.specs.Prelude.{◌≡◌, ◌<◌};
 ghost use Rattle.files.specs.Reading.{reading_of};
 ghost use Rattle.pvr.specs.Header.{known_flags, levels_field, payload_offset, number_of, HeaderRead};
@@ -11,7 +13,7 @@ use files::{Reading, Size, Stored};
 const VERSION: [u8; 4] = [0x50, 0x56, 0x52, 0x03];
 
 // Why a header is refused, in the words of documents 01 and 02.
-#[derive(Drop)]
+#[derive(Clone, Copy)]
 pub enum HeaderRefusal {
     ShortHeader,
     NotPvr,
@@ -24,7 +26,7 @@ pub enum HeaderRefusal {
 }
 
 // What reading a header answers.
-#[derive(Drop)]
+#[derive(Clone, Copy)]
 pub enum Header {
     Plate {
         width: usize,
@@ -36,7 +38,7 @@ pub enum Header {
 }
 
 // What the four fields that count what a file holds say by themselves.
-#[derive(Drop)]
+#[derive(Clone, Copy)]
 enum Counts {
     OnePlate,
     Refused(HeaderRefusal),

@@ -1,4 +1,6 @@
 // The calls: a texel, a row, all blocks of a picture.
+#![tactic(auto)]
+
 mod block_call;
 mod check;
 mod layout;
@@ -15,7 +17,7 @@ pub use row_call::decode_row;
 pub use texel_call::decode_texel;
 
 // Why a call refuses, in document 01's words.
-#[derive(Drop)]
+#[derive(Clone, Copy)]
 pub enum Refusal {
     ZeroSide,
     LargeSide,
@@ -26,14 +28,14 @@ pub enum Refusal {
 }
 
 // What a call that writes into lent words answers.
-#[derive(Drop)]
+#[derive(Clone, Copy)]
 pub enum Decoded {
     Done,
     Refused(Refusal),
 }
 
 // What the texel call answers.
-#[derive(Drop)]
+#[derive(Clone, Copy)]
 pub enum Texel {
     Word(u32),
     Refused(Refusal),
@@ -41,14 +43,14 @@ pub enum Texel {
 
 // How many blocks a picture's grid has: as many as the Rust counts, those that cover the picture; or as many as files store, two each way
 // at least.
-#[derive(Drop)]
+#[derive(Clone, Copy)]
 pub enum GridMode {
     Rust,
     Stored,
 }
 
 // The description of a picture. `picture_of` makes one; its grid and its sheet are `layout`'s.
-#[derive(Drop)]
+#[derive(Clone, Copy)]
 pub struct Picture {
     pub width: usize,
     pub height: usize,
@@ -58,7 +60,7 @@ pub struct Picture {
 }
 
 // Which call is made, with what it asks for: a texel; a row of lent words; all blocks into lent words.
-#[derive(Drop)]
+#[derive(Clone, Copy)]
 pub enum Call {
     Texel { x: usize, y: usize },
     Row { y: usize, room: usize },

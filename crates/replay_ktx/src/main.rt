@@ -1,6 +1,8 @@
 // Prints what the KTX calls answer and what `plate` writes for some four hundred files, each a plain one with something changed; and in a line
 // of its own, what decoding the file red first answers. What it must print, in the file `stdout`, was written by tools/replay_ktx. It is one
 // module, since what a function prints is nothing that it could promise.
+#![tactic(auto)]
+
 mod tables;
 
 ghost use Rattle.std.specs.Prelude.{length};
@@ -10,7 +12,7 @@ use ktx::Header;
 use pixel::ChannelOrder;
 
 // What is chosen of a file, where it ends, and how many words are lent for its picture.
-#[derive(Drop)]
+#[derive(Clone, Copy)]
 struct Case {
     format: u32,
     key_values: u32,
@@ -23,7 +25,7 @@ struct Case {
 
 // What a row says, one number or two as one: where a file is cut, a place and its four bytes, how many key/value bytes there are and where the
 // file ends, or two refusals by their places in the order.
-#[derive(Drop)]
+#[derive(Clone, Copy)]
 enum Row {
     Cut,
     Place,

@@ -1,5 +1,7 @@
 // Prints what the leaves answer: the colours and weights of some three hundred words, and the addresses of ten grids. What it must
 // print, in the file `stdout`, was written by the Rust. It is one module, since what a function prints is nothing that it could promise.
+#![tactic(auto)]
+
 ghost use Rattle.std.specs.Prelude.{◌≡◌, min};
 ghost use Rattle.grid.specs.Grid.{Placed};
 

@@ -1,6 +1,8 @@
 // Prints what the calls of a level answer for some hundred files of both kinds, each level by itself; and in a line of its own, what decoding
 // the level red first answers. What it must print, in the file `stdout`, was written by tools/replay_levels. It is one module, since what a
 // function prints is nothing that it could promise.
+#![tactic(auto)]
+
 mod tables;
 
 use ktx::Header;
@@ -9,7 +11,7 @@ use pixel::ChannelOrder;
 
 // What is chosen of a file: its kind and depth, the sides, how many levels the header says, how many bytes are skipped before them, and in a
 // KTX file the level whose size word is another, and that word.
-#[derive(Drop)]
+#[derive(Clone, Copy)]
 struct Case {
     ktx: bool,
     is2bpp: bool,
@@ -22,7 +24,7 @@ struct Case {
 }
 
 // What a row of numbers stands for: two refusals of a kind's order, or flags.
-#[derive(Drop)]
+#[derive(Clone, Copy)]
 enum Run {
     PvrPairs,
     KtxPairs,

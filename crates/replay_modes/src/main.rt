@@ -1,6 +1,8 @@
 // Prints what the calls answer in both modes of a picture's grid, each blue first and then red first: every size of 1 to 20 by 1 to 20 texels, each way
 // to its words; the red corner; one colour; and calls on both sides of what each grid needs. What it must print, in the file `stdout`, was written by
 // tools/replay_modes, and the Rust wrote the same. It is one module, since what a function prints is nothing that it could promise.
+#![tactic(auto)]
+
 mod tables;
 
 use pixel::ChannelOrder;
@@ -8,7 +10,7 @@ use pvrtc::{Decoded, GridMode, Picture, Texel};
 
 // A way to the words of a picture: the call that is told the depth, that with the depth in its name, the plain form, the row call for each row, the
 // texel call for each texel; or to the words of row y.
-#[derive(Drop)]
+#[derive(Clone, Copy)]
 enum Way {
     Told,
     Named,
@@ -19,7 +21,7 @@ enum Way {
 }
 
 // The refusal's number, 0 for none, and the sum over every lent word afterwards.
-#[derive(Drop)]
+#[derive(Clone, Copy)]
 struct Answer {
     number: u64,
     sum: u64,

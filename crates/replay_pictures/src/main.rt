@@ -1,6 +1,8 @@
 // Prints what the calls that write into lent words answer, with a sum over every lent word afterwards: pictures of many shapes, all rows
 // of some, and calls on both sides of each refusal; each blue first and then red first. What it must print, in the file `stdout`, was
 // written by the Rust. What prints is one module, since what a function prints is nothing that it could promise.
+#![tactic(auto)]
+
 mod sizes;
 mod tables;
 
@@ -8,7 +10,7 @@ use pixel::ChannelOrder;
 use pvrtc::{Decoded, GridMode, Picture};
 
 // A call: it is told the depth, or has it in its name, or is the plain form, or asks for row y.
-#[derive(Drop)]
+#[derive(Clone, Copy)]
 enum Way {
     Told,
     Named,

@@ -1,5 +1,7 @@
 // Prints what `plate` writes for some hundreds of files, each a plain one with something changed. What it must print, in the file `stdout`,
 // was written by tools/replay_plates. It is one module, since what a function prints is nothing that it could promise.
+#![tactic(auto)]
+
 mod tables;
 
 ghost use Rattle.std.specs.Prelude.{length};
@@ -8,7 +10,7 @@ ghost use Rattle.convert.specs.Output.{Room};
 // What a row says, one number or some as one: where a file is cut, a place and its four bytes, how much metadata there is and where the file ends,
 // a format and two sides, these and where the file ends, two refusals by their places in the order, a bit for each of seven, or flags by their
 // place in the list and a bit for each of two.
-#[derive(Drop)]
+#[derive(Clone, Copy)]
 enum Row {
     Cut,
     Place,

@@ -1,6 +1,8 @@
 // Prints what the texel call answers: chosen texels of 270 pictures, then calls on both sides of each refusal; each blue first and then
 // red first. What it must print, in the file `stdout`, was written by the Rust. It is one module, since what a function prints is nothing
 // that it could promise.
+#![tactic(auto)]
+
 mod tables;
 
 use pixel::ChannelOrder;

@@ -1,4 +1,6 @@
 // What programs of the gate share: files laid in memory, drawn bytes and words, and checksums of what comes of them.
+#![tactic(auto)]
+
 mod draw;
 
 ghost use Rattle.std.specs.Prelude.{◌≡◌, length, set};

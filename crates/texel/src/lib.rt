@@ -1,4 +1,6 @@
 // One texel of a picture, from the nine words about its block.
+#![tactic(auto)]
+
 mod rows;
 mod summing;
 mod weights;
@@ -19,7 +21,7 @@ use word::PVRTCTexelInfo;
 pub use words::{nine_words, texel_at};
 
 // The channels of a colour: summed over nine blocks, or brought to 8 bits.
-#[derive(Drop)]
+#[derive(Clone, Copy)]
 pub struct PVRTCTexelColorInt {
     pub r: u32,
     pub g: u32,
@@ -28,7 +30,7 @@ pub struct PVRTCTexelColorInt {
 }
 
 // The sums of a colour down three columns of words: the previous, the own and the next block's.
-#[derive(Drop)]
+#[derive(Clone, Copy)]
 pub struct Columns {
     pub previous: PVRTCTexelColorInt,
     pub own: PVRTCTexelColorInt,
@@ -36,7 +38,7 @@ pub struct Columns {
 }
 
 // The columns of colours A and B.
-#[derive(Drop)]
+#[derive(Clone, Copy)]
 pub struct Window {
     pub a: Columns,
     pub b: Columns,

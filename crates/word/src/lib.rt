@@ -1,6 +1,8 @@
 // One word of a picture's data: its two colours and its texels' weights.
 //
 // Each reader takes the data from the word's first byte on, as the Rust does. A byte past the end reads as 0.
+#![tactic(auto)]
+
 mod weights;
 
 ghost use Rattle.std.specs.Prelude.{◌≡◌, ◌+◌, ◌*◌, ◌<◌, get_or};
@@ -9,7 +11,7 @@ ghost use Rattle.word.specs.Word.{blue_a, blue_b, color_of, with_colors, unread,
 pub use weights::{get_texel_weights_2bpp, get_texel_weights_4bpp};
 
 // A colour as the word holds it: five bits each, alpha four.
-#[derive(Drop)]
+#[derive(Clone, Copy)]
 pub struct PVRTCTexelColor {
     pub r: u8,
     pub g: u8,
@@ -18,7 +20,7 @@ pub struct PVRTCTexelColor {
 }
 
 // How the texels of a 2bpp word that hold no code of their own are filled.
-#[derive(Drop)]
+#[derive(Clone, Copy)]
 pub enum Fill {
     Nothing,
     Around,
@@ -27,7 +29,7 @@ pub enum Fill {
 }
 
 // A word, read. At 4bpp the first sixteen weights count.
-#[derive(Drop)]
+#[derive(Clone, Copy)]
 pub struct PVRTCTexelInfo {
     pub a: PVRTCTexelColor,
     pub b: PVRTCTexelColor,
