@@ -1,0 +1,6 @@
+-- `paint::columns_from` meets its contract. Assumes nothing.
+use borrow.Author.Rules.{rules}
+use Rattle.paint.proofs.columns_from.Goals as goal
+
+pub returns : goal.returns
+returns c = rw c.least.ensures

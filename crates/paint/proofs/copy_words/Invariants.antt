@@ -1,0 +1,14 @@
+-- `paint::copy_words` meets its contract. The loop keeps that the first i words of the row are laid. Assumes nothing.
+use mathlib.Core.Path.{◌≡◌, refl, ap, ◌∙◌}
+use Prim.Native.Nat.{ℕ, ◌+◌, ◌-◌, ◌≤◌}
+use native.Mathlib.Omega.{arith}
+use lib.ListN.{get_or}
+use Rattle.paint.proofs.Laid.{Row, row-none, row_word}
+use Rattle.paint.specs.Paint.{painted}
+use Rattle.paint.proofs.copy_words.Given as goal
+
+abbrev pub invariant-loop-i : goal.invariant-loop-i
+invariant-loop-i l = (l.i ≤ l.n) × Row (λ x y. get_or l.buffer (l.from + x) 0) l.initial.image l.to l.n l.i l.image
+
+abbrev pub decreases-loop-i : goal.decreases-loop-i
+decreases-loop-i l = l.n - l.i

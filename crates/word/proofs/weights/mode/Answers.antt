@@ -1,0 +1,14 @@
+-- `word::weights::mode` meets its contract. Bit 0 of the colour is bit 0 of its first byte. Assumes nothing.
+use mathlib.Core.Path.{◌≡◌, ap}
+use Prim.Native.Nat.{ℕ, ◌+◌, ◌*◌, ◌/◌, ◌%◌}
+use native.Mathlib.Omega.{arith}
+use lib.Dec.{eqb}
+use lib.ListN.{get_or}
+use borrow.Author.Rules.{rules}
+use Rattle.word.proofs.weights.mode.Goals as goal
+
+pub returns : goal.returns
+returns c =
+    let d = c.args.«data».now in
+    let e : c.byte_at.result % 2 ≡ (get_or d 4 0 + 256 * get_or d 5 0) / 1 % 2 = omega (arith, c.byte_at.ensures) in
+    ap (λ (x : ℕ). eqb x 1) e
