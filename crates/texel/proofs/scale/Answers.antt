@@ -1,0 +1,27 @@
+-- `texel::scale` meets its contract, by the depth: `Blend` has document 01's formulas and their bounds. Assumes nothing.
+use mathlib.Core.Bool.{false}
+use Prim.Native.Nat.{◌*◌}
+use native.Mathlib.Omega.{arith}
+use borrow.Author.Rules.{rules}
+use Rattle.grid.specs.Grid.{half}
+use Rattle.texel.proofs.Blend.{scaled-by}
+use Rattle.texel.specs.Inner.{Low}
+use Rattle.texel.proofs.scale.Goals as goal
+
+pub overflow_add-result-else-is2bpp-4 : goal.overflow_add-result-else-is2bpp-4
+overflow_add-result-else-is2bpp-4 c =
+    let start = c in
+    let l : Low (8 * half false) start.args.s = rw c.if-is2bpp.false at start.requires in
+    omega (arith, l.a)
+
+pub returns-then-is2bpp : goal.returns-then-is2bpp
+returns-then-is2bpp c =
+    let start = c in
+    rw c.if-is2bpp.true
+    (rw c.if-is2bpp.true at (scaled-by start.args.is2bpp start.args.s start.requires))
+
+pub returns-else-is2bpp : goal.returns-else-is2bpp
+returns-else-is2bpp c =
+    let start = c in
+    rw c.if-is2bpp.false
+    (rw c.if-is2bpp.false at (scaled-by start.args.is2bpp start.args.s start.requires))

@@ -1,0 +1,6 @@
+-- `texel::summing::weighed` meets its contract, channel by channel. Assumes nothing.
+use borrow.Author.Rules.{rules}
+use Rattle.texel.proofs.summing.weighed.Goals as goal
+
+pub returns : goal.returns
+returns c = cc

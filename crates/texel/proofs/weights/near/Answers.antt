@@ -1,0 +1,19 @@
+-- `texel::weights::near` meets its contract: the block and its texel are where the nine blocks have the place. Assumes nothing.
+use native.Mathlib.Omega.{arith}
+use borrow.Author.Rules.{rules}
+use Rattle.texel.proofs.Made.{near-is}
+use Rattle.texel.proofs.Shares.{half_high}
+use Rattle.texel.proofs.weights.near.Goals as goal
+
+pub bounds-weights-i : goal.bounds-weights-i
+bounds-weights-i c = omega (arith, c.place_of-i.ensures.1, half_high c.args.is2bpp)
+
+pub overflow_cast-result : goal.overflow_cast-result
+overflow_cast-result c = omega (arith, c.requires.1.low _ _ c.block_of-k.ensures.1 c.place_of-i.ensures.1)
+
+pub returns : goal.returns
+returns c =
+    let a = c in
+    let block = c.block_of-k.ensures in
+    let place = c.place_of-i.ensures in
+    (near-is a.args.is2bpp a.args.weights.now a.args.x a.args.y block.0 place.0, a.requires.1.low _ _ block.1 place.1)
