@@ -115,9 +115,9 @@ module _ {g : Grid} {by len : ℕ} {row : RowAddresses} (r : RowAt g by len row)
     unfolding addresses_of
     word-above = word_in 0 row.above (ap (λ (a : RowAddresses). a.above) r.is)
 
-    pub word-own : Word 1 (part + row.own_val)
+    pub word-own : Word 1 (part + row.own)
     unfolding addresses_of
-    word-own = word_in 1 row.own_val (ap (λ (a : RowAddresses). a.own) r.is)
+    word-own = word_in 1 row.own (ap (λ (a : RowAddresses). a.own) r.is)
 
     pub word_below : Word 2 (part + row.below)
     unfolding addresses_of

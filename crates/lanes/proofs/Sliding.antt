@@ -70,7 +70,7 @@ pub record Window2bpp (order : ChannelOrder) (g : Grid) (by : ℕ) (d : List ℕ
 -- the code reads them by what the column adds to an address
 module _ {g : Grid} {by len bx k part : ℕ} {row : RowAddresses} (r : RowAt g by len row) (p : SeenPart g row bx k part) (d : List ℕ) where
   abbrev three : {A : Type 0} → (ℕ → ℕ → ℕ → A) → A
-  three f = f (part + row.above) (part + row.own_val) (part + row.below)
+  three f = f (part + row.above) (part + row.own) (part + row.below)
 
   words_are : {A : Type 0} (f : ℕ → ℕ → ℕ → A) → three f ≡ f (place_at g by bx k 0) (place_at g by bx k 1) (place_at g by bx k 2)
   words_are f = rw ((word-above r p).0, (word-own r p).0, (word_below r p).0)
@@ -78,10 +78,10 @@ module _ {g : Grid} {by len bx k part : ℕ} {row : RowAddresses} (r : RowAt g b
   pub column-seen : (order : ChannelOrder) {v : Column} → (v ≡ three (column_of order d)) × SmallColumn v → SeenColumn g by d order bx k v
   column-seen order e = record { is = e.0 ∙ words_are (column_of order d); good = e.1 }
 
-  pub codes-seen : {v : Codes} → (v ≡ codes_of (word_at d (part + row.own_val))) × (v.start ≤ 4) → SeenCodes g by d bx k v
+  pub codes-seen : {v : Codes} → (v ≡ codes_of (word_at d (part + row.own))) × (v.start ≤ 4) → SeenCodes g by d bx k v
   codes-seen e = record { is = e.0 ∙ words_are (λ u o e. codes_of (word_at d o)); good = e.1 }
 
-  pub weights-seen : {v : Weights} → (v ≡ weight_rows (word_at d (part + row.own_val))) × LowRows v → SeenWeights g by d bx k v
+  pub weights-seen : {v : Weights} → (v ≡ weight_rows (word_at d (part + row.own))) × LowRows v → SeenWeights g by d bx k v
   weights-seen e = record { is = e.0 ∙ words_are (λ u o e. weight_rows (word_at d o)); good = e.1 }
 
   pub rule-of : {v : FillRule} → v ≡ three (λ u o e. fill_rule_of (word_at d u) (word_at d o) (word_at d e))

@@ -23,7 +23,7 @@ addresses_of g by =
 -- The words above, own and below of a column that adds `part` to an address stand in a run of `len` bytes.
 pub record InColumn (row : RowAddresses) (part len : ℕ) : Type 0 where
   pub above : 8 * (part + row.above) + 8 ≤ len
-  pub own : 8 * (part + row.own_val) + 8 ≤ len
+  pub own : 8 * (part + row.own) + 8 ≤ len
   pub below : 8 * (part + row.below) + 8 ≤ len
 
 -- Row `by` of a grid and its sheet are ready to be laid: the grid's words stand in `len` bytes and it has such a row; it has the blocks

@@ -1,0 +1,12 @@
+-- `lanes::filling::upper_edge` meets its contract: one of the word's rows. Assumes nothing.
+use native.Mathlib.Omega.{arith}
+use borrow.Author.Rules.{rules}
+use Rattle.lanes.proofs.Stored.{row-0}
+use Rattle.lanes.proofs.filling.upper_edge.Goals as goal
+
+pub returns : goal.returns
+returns c =
+    let known = c in
+    let a = known.args in
+    row-0 a.d.now a.z (λ i. omega (arith, known.shared_slice_known-1.given i)) c.byte-mode.ensures.0 c.byte.ensures.0
+    c.first_row.ensures

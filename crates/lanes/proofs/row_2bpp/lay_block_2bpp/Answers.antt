@@ -1,0 +1,94 @@
+-- `lanes::row_2bpp::lay_block_2bpp` meets its contract. The loop keeps that the rows before row j are laid. Assumes nothing.
+use mathlib.Core.Path.{◌≡◌, refl}
+use Prim.Native.Nat.{◌+◌, ◌-◌, ◌*◌, ◌≤◌, ◌<◌}
+use native.Mathlib.Omega.{arith}
+use lib.ListN.{length}
+use Rattle.paint.proofs.Laid.{Part, part_none, row-part}
+use Rattle.paint.proofs.Sheets.{row-in-room}
+use Rattle.lanes.specs.Block2bpp.{in_block_2bpp}
+use Rattle.lanes.proofs.Laying.{row_small}
+use Rattle.lanes.proofs.row_2bpp.lay_block_2bpp.Goals as goal
+use Rattle.lanes.proofs.row_2bpp.lay_block_2bpp.Goals.{In-loop-j}
+
+-- a row of the loop is one of four, and lies in the image
+row_in : (t : In-loop-j) → let l = t in let a = l.args in
+    (l.loop-j.j < 4) × (a.part.start + (l.loop-j.j * a.part.stride + a.part.width) ≤ length a.image.now)
+row_in t =
+    let p = t.requires.fits in
+    (omega (arith, t.loop-j-test.true, p.2), row-in-room p.0 t.loop-j.j t.loop-j-test.true)
+
+pub loop-j-init : goal.loop-j-init
+loop-j-init c = (omega arith, part_none _ _ _ _ _ c.requires.fits.0.apart)
+
+pub offset_bounds-left-j : goal.offset_bounds-left-j
+offset_bounds-left-j c = omega (arith, (row_in (goal.at.offset_bounds-left-j c).In-loop-j).0)
+
+pub bounds-left-j : goal.bounds-left-j
+bounds-left-j c = (row_in (goal.at.bounds-left-j c).In-loop-j).0
+
+pub offset_bounds-own-j : goal.offset_bounds-own-j
+offset_bounds-own-j c = omega (arith, (row_in (goal.at.offset_bounds-own-j c).In-loop-j).0)
+
+pub bounds-own-j : goal.bounds-own-j
+bounds-own-j c = (row_in (goal.at.bounds-own-j c).In-loop-j).0
+
+pub offset_bounds-right-j : goal.offset_bounds-right-j
+offset_bounds-right-j c = omega (arith, (row_in (goal.at.offset_bounds-right-j c).In-loop-j).0)
+
+pub bounds-right-j : goal.bounds-right-j
+bounds-right-j c = (row_in (goal.at.bounds-right-j c).In-loop-j).0
+
+pub offset_bounds-left-j-in-loop-j : goal.offset_bounds-left-j-in-loop-j
+offset_bounds-left-j-in-loop-j c = omega (arith, (row_in (goal.at.offset_bounds-left-j-in-loop-j c).In-loop-j).0)
+
+pub bounds-left-j-in-loop-j : goal.bounds-left-j-in-loop-j
+bounds-left-j-in-loop-j c = (row_in (goal.at.bounds-left-j-in-loop-j c).In-loop-j).0
+
+pub offset_bounds-own-j-in-loop-j : goal.offset_bounds-own-j-in-loop-j
+offset_bounds-own-j-in-loop-j c = omega (arith, (row_in (goal.at.offset_bounds-own-j-in-loop-j c).In-loop-j).0)
+
+pub bounds-own-j-in-loop-j : goal.bounds-own-j-in-loop-j
+bounds-own-j-in-loop-j c = (row_in (goal.at.bounds-own-j-in-loop-j c).In-loop-j).0
+
+pub offset_bounds-right-j-in-loop-j : goal.offset_bounds-right-j-in-loop-j
+offset_bounds-right-j-in-loop-j c = omega (arith, (row_in (goal.at.offset_bounds-right-j-in-loop-j c).In-loop-j).0)
+
+pub bounds-right-j-in-loop-j : goal.bounds-right-j-in-loop-j
+bounds-right-j-in-loop-j c = (row_in (goal.at.bounds-right-j-in-loop-j c).In-loop-j).0
+
+pub overflow_mul-at : goal.overflow_mul-at
+overflow_mul-at c = omega (arith, row_in (goal.at.overflow_mul-at c).In-loop-j)
+
+pub overflow_add-at : goal.overflow_add-at
+overflow_add-at c = omega (arith, row_in (goal.at.overflow_add-at c).In-loop-j)
+
+pub offset_bounds-weights-j : goal.offset_bounds-weights-j
+offset_bounds-weights-j c = omega (arith, row_in (goal.at.offset_bounds-weights-j c).In-loop-j)
+
+pub bounds-weights-j : goal.bounds-weights-j
+bounds-weights-j c = (row_in (goal.at.bounds-weights-j c).In-loop-j).0
+
+pub lay_row_2bpp-requires : goal.lay_row_2bpp-requires
+lay_row_2bpp-requires c =
+    let t = c in
+    let p = t.requires.small_column in record { small_sums = row_small p.0 p.1 p.2 (row_in (goal.at.lay_row_2bpp-requires c).In-loop-j).0; columns_bound = (t.requires.fits.1, rw t.loop-j.invariant.1.len (omega (arith, row_in (goal.at.lay_row_2bpp-requires c).In-loop-j))) }
+
+pub overflow_step-j : goal.overflow_step-j
+overflow_step-j c = omega (arith, c.loop-j-test.true)
+
+pub loop-j-smaller : goal.loop-j-smaller
+loop-j-smaller c = omega (arith, c.loop-j-test.true)
+
+pub loop-j-preserved : goal.loop-j-preserved
+loop-j-preserved c =
+    let t = c in
+    (omega (arith, t.loop-j-test.true), row-part t.loop-j.invariant.1 t.requires.fits.0.apart (row_in (goal.at.loop-j-preserved c).In-loop-j).1 refl c.lay_row_2bpp.ensures)
+
+pub shape_of-image : goal.shape_of-image
+shape_of-image c = c.loop-j.invariant.1.len
+
+pub returns : goal.returns
+returns c =
+    let l = c in
+    let all : l.loop-j.j ≡ l.args.part.height = omega (arith, c.loop-j-test.false, l.loop-j.invariant.0) in
+    (rw all at l.loop-j.invariant.1).is
