@@ -25,20 +25,17 @@ overflow_mul-j c = omega (arith, in_buffer c.requires c.loop-j.j c.loop-j-test.t
 
 pub overflow_mul-j-in-loop-j : goal.overflow_mul-j-in-loop-j
 overflow_mul-j-in-loop-j c =
-    let start = c in
-    omega (arith, row-in-room start.requires.0 c.loop-j.j c.loop-j-test.true)
+    omega (arith, row-in-room c.requires.0 c.loop-j.j c.loop-j-test.true)
 
 pub overflow_add-part : goal.overflow_add-part
 overflow_add-part c =
-    let start = c in
-    omega (arith, row-in-room start.requires.0 c.loop-j.j c.loop-j-test.true)
+    omega (arith, row-in-room c.requires.0 c.loop-j.j c.loop-j-test.true)
 
 pub copy_words-requires : goal.copy_words-requires
 copy_words-requires c =
-    let start = c in
     let l = c.loop-j in
     let taken = c.loop-j-test.true in
-    (in_buffer start.requires l.j taken, rw l.invariant.1.len (omega (arith, row-in-room start.requires.0 l.j taken)))
+    (in_buffer c.requires l.j taken, rw l.invariant.1.len (omega (arith, row-in-room c.requires.0 l.j taken)))
 
 pub overflow_step-j : goal.overflow_step-j
 overflow_step-j c = omega (arith, c.loop-j-test.true)
@@ -48,10 +45,9 @@ loop-j-smaller c = omega (arith, c.loop-j-test.true)
 
 pub loop-j-preserved : goal.loop-j-preserved
 loop-j-preserved c =
-    let start = c in
     let l = c.loop-j in
     let taken = c.loop-j-test.true in
-    (omega (arith, taken), row-part l.invariant.1 start.requires.0.apart (row-in-room start.requires.0 l.j taken) refl c.copy_words.ensures)
+    (omega (arith, taken), row-part l.invariant.1 c.requires.0.apart (row-in-room c.requires.0 l.j taken) refl c.copy_words.ensures)
 
 pub shape_of-image : goal.shape_of-image
 shape_of-image c = c.loop-j.invariant.1.len

@@ -10,18 +10,15 @@ use Rattle.texel.proofs.scale.Goals as goal
 
 pub overflow_add-result-else-is2bpp-4 : goal.overflow_add-result-else-is2bpp-4
 overflow_add-result-else-is2bpp-4 c =
-    let start = c in
-    let l : Low (8 * half false) start.args.s = rw c.if-is2bpp.false at start.requires in
+    let l : Low (8 * half false) c.args.s = rw c.if-is2bpp.false at c.requires in
     omega (arith, l.a)
 
 pub returns-then-is2bpp : goal.returns-then-is2bpp
 returns-then-is2bpp c =
-    let start = c in
     rw c.if-is2bpp.true
-    (rw c.if-is2bpp.true at (scaled-by start.args.is2bpp start.args.s start.requires))
+    (rw c.if-is2bpp.true at (scaled-by c.args.is2bpp c.args.s c.requires))
 
 pub returns-else-is2bpp : goal.returns-else-is2bpp
 returns-else-is2bpp c =
-    let start = c in
     rw c.if-is2bpp.false
-    (rw c.if-is2bpp.false at (scaled-by start.args.is2bpp start.args.s start.requires))
+    (rw c.if-is2bpp.false at (scaled-by c.args.is2bpp c.args.s c.requires))

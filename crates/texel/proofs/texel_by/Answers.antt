@@ -6,27 +6,24 @@ use Rattle.texel.proofs.texel_by.Goals as goal
 
 pub sum_across-requires : goal.sum_across-requires
 sum_across-requires c =
-    let start = c in
-    (start.requires.low_weights.1.a, few-across start.args.is2bpp start.args.px start.requires.wide_value.2.across c.shares_across-row.ensures)
+    (c.requires.low_weights.1.a, few-across c.args.is2bpp c.args.px c.requires.wide_value.2.across c.shares_across-row.ensures)
 
 pub scale-a-requires : goal.scale-a-requires
 scale-a-requires c =
-    let start = c in
-    low-across start.args.is2bpp start.args.px start.args.window.a start.requires.wide_value.2.across start.requires.low_weights.1.a
+    low-across c.args.is2bpp c.args.px c.args.window.a c.requires.wide_value.2.across c.requires.low_weights.1.a
     c.shares_across-row.ensures c.sum_across.ensures
 
 pub sum_across-requires-2 : goal.sum_across-requires-2
 sum_across-requires-2 c =
-    let start = c in (
-      start.requires.low_weights.1.b,
-      few-across start.args.is2bpp start.args.px start.requires.wide_value.2.across
+    (
+      c.requires.low_weights.1.b,
+      few-across c.args.is2bpp c.args.px c.requires.wide_value.2.across
           c.shares_across-row.ensures,
     )
 
 pub scale-b-requires : goal.scale-b-requires
 scale-b-requires c =
-    let start = c in
-    low-across start.args.is2bpp start.args.px start.args.window.b start.requires.wide_value.2.across start.requires.low_weights.1.b
+    low-across c.args.is2bpp c.args.px c.args.window.b c.requires.wide_value.2.across c.requires.low_weights.1.b
     c.shares_across-row.ensures c.sum_across-2.ensures
 
 pub returns : goal.returns

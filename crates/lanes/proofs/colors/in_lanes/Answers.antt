@@ -7,7 +7,7 @@ use Rattle.lanes.proofs.Fields.{in-lanes, spread-fits}
 use Rattle.lanes.proofs.colors.in_lanes.Goals as goal
 
 pub overflow_mul-apart : goal.overflow_mul-apart
-overflow_mul-apart c = let s = c in omega (arith, spread-fits s.args.order s.args.fields 0x7c1f s.requires.0 c.spread_of.ensures)
+overflow_mul-apart c = omega (arith, spread-fits c.args.order c.args.fields 0x7c1f c.requires.0 c.spread_of.ensures)
 
 pub overflow_add-result : goal.overflow_add-result
 overflow_add-result c = omega (arith, and_le_r (bit_and c.args.fields 0x7c1f * c.spread_of.result / 1024) 0x001f001f)
@@ -17,4 +17,4 @@ overflow_add-result-2 c =
     omega (arith, c.requires.1, and_le_r (bit_and c.args.fields 0x7c1f * c.spread_of.result / 1024) 0x001f001f)
 
 pub returns : goal.returns
-returns c = let s = c in in-lanes s.args.order s.args.fields s.args.alpha s.requires.0 c.spread_of.ensures
+returns c = in-lanes c.args.order c.args.fields c.args.alpha c.requires.0 c.spread_of.ensures

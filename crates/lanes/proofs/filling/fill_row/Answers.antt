@@ -34,10 +34,9 @@ overflow_add-result-3 c = omega (arith, fits (goal.at.overflow_add-result-3 c).S
 
 pub overflow_add-result-4 : goal.overflow_add-result-4
 overflow_add-result-4 c =
-    let s = c in
-    let a = s.args in
+    let a = c.args in
     let sum = a.rule.beside * beside_row a.left a.own a.right + a.rule.upright * (a.above + a.below) + 0x0202020202020202 in
-    omega (arith, and_le_r (sum / 4) a.keep, s.requires.low_row.1.all)
+    omega (arith, and_le_r (sum / 4) a.keep, c.requires.low_row.1.all)
 
 pub returns : goal.returns
 unfolding filled_row

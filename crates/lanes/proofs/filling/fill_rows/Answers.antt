@@ -16,33 +16,30 @@ asked s y h k u e = let p = s.requires in ((p.3.times, k), (p.0.low y h, p.1.low
 
 pub fill_row-requires : goal.fill_row-requires
 fill_row-requires c =
-    let s = c in
-    let p = s.requires in
-    asked (goal.at.fill_row-requires c).Start 0 (omega arith) (omega (arith, p.3.mode)) p.3.above (p.1.low 1 (omega arith))
+    let p = c.requires in
+    let asks = asked (goal.at.fill_row-requires c).Start 0 (omega arith) (omega (arith, p.3.mode)) p.3.above (p.1.low 1 (omega arith)) in
+    record { few_times = asks.0; low_row = asks.1 }
 
 pub fill_row-requires-2 : goal.fill_row-requires-2
 fill_row-requires-2 c =
-    let s = c in
-    let p = s.requires in
-    asked (goal.at.fill_row-requires-2 c).Start 1 (omega arith) (omega (arith, p.3.mode)) (p.1.low 0 (omega arith)) (p.1.low 2 (omega arith))
+    let p = c.requires in
+    let asks = asked (goal.at.fill_row-requires-2 c).Start 1 (omega arith) (omega (arith, p.3.mode)) (p.1.low 0 (omega arith)) (p.1.low 2 (omega arith)) in
+    record { few_times = asks.0; low_row = asks.1 }
 
 pub fill_row-requires-3 : goal.fill_row-requires-3
 fill_row-requires-3 c =
-    let s = c in
-    let p = s.requires in
-    asked (goal.at.fill_row-requires-3 c).Start 2 (omega arith) (omega (arith, p.3.mode)) (p.1.low 1 (omega arith)) (p.1.low 3 (omega arith))
+    let p = c.requires in
+    let asks = asked (goal.at.fill_row-requires-3 c).Start 2 (omega arith) (omega (arith, p.3.mode)) (p.1.low 1 (omega arith)) (p.1.low 3 (omega arith)) in
+    record { few_times = asks.0; low_row = asks.1 }
 
 pub fill_row-requires-4 : goal.fill_row-requires-4
 fill_row-requires-4 c =
-    let s = c in
-    let p = s.requires in
-    asked (goal.at.fill_row-requires-4 c).Start 3 (omega arith) (omega (arith, p.3.mode)) (p.1.low 2 (omega arith)) p.3.below
+    let p = c.requires in
+    let asks = asked (goal.at.fill_row-requires-4 c).Start 3 (omega arith) (omega (arith, p.3.mode)) (p.1.low 2 (omega arith)) p.3.below in
+    record { few_times = asks.0; low_row = asks.1 }
 
 pub returns : goal.returns
 returns c =
-    let third = c in
-    let second = third in
-    let first = second in
-    let a = first.args in
-    filled-are a.left a.own a.right a.rule first.fill_row.ensures second.fill_row-2.ensures
-    third.fill_row-3.ensures c.fill_row-4.ensures
+    let a = c.args in
+    filled-are a.left a.own a.right a.rule c.fill_row.ensures c.fill_row-2.ensures
+    c.fill_row-3.ensures c.fill_row-4.ensures

@@ -25,10 +25,6 @@ overflow_add-result-2 c = omega (arith, (counts (goal.at.overflow_add-result-2 c
 
 pub returns : goal.returns
 returns c =
-    let upper = c in
-    let lower = upper in
-    let high = lower in
-    let known = high in
-    let a = known.args in
-    rule-is a.d.now a.above a.own a.below (λ i. omega (arith, known.shared_slice_known-1.given i))
-    high.byte-bit.ensures.0 high.byte.ensures.0 c.byte-2.ensures.0 lower.lower_edge.ensures upper.upper_edge.ensures
+    let a = c.args in
+    rule-is a.d.now a.above a.own a.below (λ i. omega (arith, c.shared_slice_known-1.given i))
+    c.byte-bit.ensures.0 c.byte.ensures.0 c.byte-2.ensures.0 c.lower_edge.ensures c.upper_edge.ensures

@@ -6,7 +6,6 @@ use Rattle.lanes.proofs.filling.upper_edge.Goals as goal
 
 pub returns : goal.returns
 returns c =
-    let known = c in
-    let a = known.args in
-    row-0 a.d.now a.z (λ i. omega (arith, known.shared_slice_known-1.given i)) c.byte-mode.ensures.0 c.byte.ensures.0
+    let a = c.args in
+    row-0 a.d.now a.z (λ i. omega (arith, c.shared_slice_known-1.given i)) c.byte-mode.ensures.0 c.byte.ensures.0
     c.first_row.ensures

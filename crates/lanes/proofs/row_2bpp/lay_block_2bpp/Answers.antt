@@ -70,8 +70,7 @@ bounds-weights-j c = (row_in (goal.at.bounds-weights-j c).In-loop-j).0
 
 pub lay_row_2bpp-requires : goal.lay_row_2bpp-requires
 lay_row_2bpp-requires c =
-    let t = c in
-    let p = t.requires.small_column in record { small_sums = row_small p.0 p.1 p.2 (row_in (goal.at.lay_row_2bpp-requires c).In-loop-j).0; columns_bound = (t.requires.fits.1, rw t.loop-j.invariant.1.len (omega (arith, row_in (goal.at.lay_row_2bpp-requires c).In-loop-j))) }
+    let p = c.requires.small_column in record { small_sums = row_small p.0 p.1 p.2 (row_in (goal.at.lay_row_2bpp-requires c).In-loop-j).0; columns_bound = (c.requires.fits.1, rw c.loop-j.invariant.1.len (omega (arith, row_in (goal.at.lay_row_2bpp-requires c).In-loop-j))) }
 
 pub overflow_step-j : goal.overflow_step-j
 overflow_step-j c = omega (arith, c.loop-j-test.true)
@@ -81,14 +80,12 @@ loop-j-smaller c = omega (arith, c.loop-j-test.true)
 
 pub loop-j-preserved : goal.loop-j-preserved
 loop-j-preserved c =
-    let t = c in
-    (omega (arith, t.loop-j-test.true), row-part t.loop-j.invariant.1 t.requires.fits.0.apart (row_in (goal.at.loop-j-preserved c).In-loop-j).1 refl c.lay_row_2bpp.ensures)
+    (omega (arith, c.loop-j-test.true), row-part c.loop-j.invariant.1 c.requires.fits.0.apart (row_in (goal.at.loop-j-preserved c).In-loop-j).1 refl c.lay_row_2bpp.ensures)
 
 pub shape_of-image : goal.shape_of-image
 shape_of-image c = c.loop-j.invariant.1.len
 
 pub returns : goal.returns
 returns c =
-    let l = c in
-    let all : l.loop-j.j ≡ l.args.part.height = omega (arith, c.loop-j-test.false, l.loop-j.invariant.0) in
-    (rw all at l.loop-j.invariant.1).is
+    let all : c.loop-j.j ≡ c.args.part.height = omega (arith, c.loop-j-test.false, c.loop-j.invariant.0) in
+    (rw all at c.loop-j.invariant.1).is

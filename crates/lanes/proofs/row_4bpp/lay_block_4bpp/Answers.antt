@@ -64,15 +64,14 @@ pub overflow_mul-at : goal.overflow_mul-at
 overflow_mul-at c = omega (arith, row_in (goal.at.overflow_mul-at c).In-loop-j)
 
 pub overflow_add-at : goal.overflow_add-at
-overflow_add-at c = let t = c in omega (arith, row_in (goal.at.overflow_add-at c).In-loop-j, in-machine (goal.at.overflow_add-at c).Start)
+overflow_add-at c = omega (arith, row_in (goal.at.overflow_add-at c).In-loop-j, in-machine (goal.at.overflow_add-at c).Start)
 
 pub row_codes-requires : goal.row_codes-requires
 row_codes-requires c = (row_in (goal.at.row_codes-requires c).In-loop-j).0
 
 pub lay_row_4bpp-requires : goal.lay_row_4bpp-requires
 lay_row_4bpp-requires c =
-    let t = c in
-    let p = t.requires in record { weights_value = p.weights_value; small_sums = (row_small p.small_column.0 p.small_column.1 p.small_column.2 (row_in (goal.at.lay_row_4bpp-requires c).In-loop-j).0, rw c.row_codes.ensures p.small_column.3); columns_bound = (p.fits.1, rw t.loop-j.invariant.1.len (omega (arith, row_in (goal.at.lay_row_4bpp-requires c).In-loop-j))) }
+    let p = c.requires in record { weights_value = p.weights_value; small_sums = (row_small p.small_column.0 p.small_column.1 p.small_column.2 (row_in (goal.at.lay_row_4bpp-requires c).In-loop-j).0, rw c.row_codes.ensures p.small_column.3); columns_bound = (p.fits.1, rw c.loop-j.invariant.1.len (omega (arith, row_in (goal.at.lay_row_4bpp-requires c).In-loop-j))) }
 
 pub overflow_step-j : goal.overflow_step-j
 overflow_step-j c = omega (arith, c.loop-j-test.true)
@@ -82,16 +81,13 @@ loop-j-smaller c = omega (arith, c.loop-j-test.true)
 
 pub loop-j-preserved : goal.loop-j-preserved
 loop-j-preserved c =
-    let codes = c in
-    let t = codes in
-    let row = rw codes.row_codes.ensures at c.lay_row_4bpp.ensures in
-    (omega (arith, t.loop-j-test.true), row-part t.loop-j.invariant.1 t.requires.fits.0.apart (row_in (goal.at.loop-j-preserved c).In-loop-j).1 refl row)
+    let row = rw c.row_codes.ensures at c.lay_row_4bpp.ensures in
+    (omega (arith, c.loop-j-test.true), row-part c.loop-j.invariant.1 c.requires.fits.0.apart (row_in (goal.at.loop-j-preserved c).In-loop-j).1 refl row)
 
 pub shape_of-image : goal.shape_of-image
 shape_of-image c = c.loop-j.invariant.1.len
 
 pub returns : goal.returns
 returns c =
-    let l = c in
-    let all : l.loop-j.j ≡ l.args.part.height = omega (arith, c.loop-j-test.false, l.loop-j.invariant.0) in
-    (rw all at l.loop-j.invariant.1).is
+    let all : c.loop-j.j ≡ c.args.part.height = omega (arith, c.loop-j-test.false, c.loop-j.invariant.0) in
+    (rw all at c.loop-j.invariant.1).is

@@ -12,18 +12,16 @@ overflow_mul-result-2 c = omega (arith, mul-le-mul c.requires.1 (c.requires.3.fe
 
 pub overflow_add-result : goal.overflow_add-result
 overflow_add-result c =
-    let start = c in
-    omega (arith, mul-le-mul start.requires.0 (start.requires.3.few 0 (omega arith)), mul-le-mul start.requires.1 (start.requires.3.few 1 (omega arith)))
+    omega (arith, mul-le-mul c.requires.0 (c.requires.3.few 0 (omega arith)), mul-le-mul c.requires.1 (c.requires.3.few 1 (omega arith)))
 
 pub overflow_mul-result-3 : goal.overflow_mul-result-3
 overflow_mul-result-3 c = omega (arith, mul-le-mul c.requires.2 (c.requires.3.few 2 (omega arith)))
 
 pub overflow_add-result-2 : goal.overflow_add-result-2
 overflow_add-result-2 c =
-    let start = c in
     omega (
       arith,
-      mul-le-mul start.requires.0 (start.requires.3.few 0 (omega arith)),
-      mul-le-mul start.requires.1 (start.requires.3.few 1 (omega arith)),
-      mul-le-mul start.requires.2 (start.requires.3.few 2 (omega arith)),
+      mul-le-mul c.requires.0 (c.requires.3.few 0 (omega arith)),
+      mul-le-mul c.requires.1 (c.requires.3.few 1 (omega arith)),
+      mul-le-mul c.requires.2 (c.requires.3.few 2 (omega arith)),
     )

@@ -13,7 +13,6 @@ overflow_cast-result c = omega (arith, c.requires.1.low _ _ c.block_of-k.ensures
 
 pub returns : goal.returns
 returns c =
-    let a = c in
     let block = c.block_of-k.ensures in
     let place = c.place_of-i.ensures in
-    (near-is a.args.is2bpp a.args.weights.now a.args.x a.args.y block.0 place.0, a.requires.1.low _ _ block.1 place.1)
+    (near-is c.args.is2bpp c.args.weights.now c.args.x c.args.y block.0 place.0, c.requires.1.low _ _ block.1 place.1)

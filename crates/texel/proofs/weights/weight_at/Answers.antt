@@ -17,13 +17,12 @@ overflow_add-px c = omega (arith, c.requires.0.across, half_high c.args.is2bpp)
 
 pub fill-requires : goal.fill-requires
 fill-requires c =
-    let a = c in
-    let w : c.block_width-width.result ≡ 2 * half a.args.is2bpp = c.block_width-width.ensures in
-    let p = a.requires.0 in (
-      omega (arith, half-low a.args.is2bpp),
+    let w : c.block_width-width.result ≡ 2 * half c.args.is2bpp = c.block_width-width.ensures in
+    let p = c.requires.0 in (
+      omega (arith, half-low c.args.is2bpp),
       omega arith,
-      record { across = omega (arith, p.across, half-low a.args.is2bpp); down = omega (arith, p.down) },
-      a.requires.1,
+      record { across = omega (arith, p.across, half-low c.args.is2bpp); down = omega (arith, p.down) },
+      c.requires.1,
     )
 
 pub returns : goal.returns

@@ -6,12 +6,10 @@ use Rattle.texel.proofs.words.address.Goals as goal
 
 pub morton_index-requires : goal.morton_index-requires
 morton_index-requires c =
-    let start = c in
-    let s = start.requires.0 in
+    let s = c.requires.0 in
     rw (c.beside-cx.ensures.0, c.beside-cy.ensures.0) (placed-in s (beside-in s _ _ _ _) c.least.ensures)
 
 pub returns : goal.returns
 returns c =
-    let start = c in
-    about-at start.args.bx start.args.by start.args.k start.requires.0 c.beside-cx.ensures.0
+    about-at c.args.bx c.args.by c.args.k c.requires.0 c.beside-cx.ensures.0
     c.beside-cy.ensures.0 c.least.ensures c.morton_index.ensures

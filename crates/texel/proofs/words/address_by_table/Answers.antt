@@ -6,11 +6,9 @@ use Rattle.texel.proofs.words.address_by_table.Goals as goal
 
 pub morton_index_by_table-requires : goal.morton_index_by_table-requires
 morton_index_by_table-requires c =
-    let start = c in
-    let s = start.requires.stands.0 in record { table_value = start.requires.table_value; placed = rw (c.beside-cx.ensures.0, c.beside-cy.ensures.0) (placed-in s (beside-in s _ _ _ _) c.least.ensures) }
+    let s = c.requires.stands.0 in record { table_value = c.requires.table_value; placed = rw (c.beside-cx.ensures.0, c.beside-cy.ensures.0) (placed-in s (beside-in s _ _ _ _) c.least.ensures) }
 
 pub returns : goal.returns
 returns c =
-    let start = c in
-    about-at start.args.bx start.args.by start.args.k start.requires.stands.0 c.beside-cx.ensures.0
+    about-at c.args.bx c.args.by c.args.k c.requires.stands.0 c.beside-cx.ensures.0
     c.beside-cy.ensures.0 c.least.ensures c.morton_index_by_table.ensures

@@ -21,15 +21,14 @@ nonzero_div-x c = wide-as c.args.g.is2bpp c.block_width-width.ensures
 
 pub needed_words-nine-requires : goal.needed_words-nine-requires
 needed_words-nine-requires c =
-    let start = c in
-    let a = start.args in
+    let a = c.args in
     let width = c.block_width-width.ensures in
     let at = place a.g.is2bpp a.x a.y width in
     let across = few-across a.g.is2bpp _ at.across c.shares_across-across.ensures in
     let row = row_at 2 (a.y % 4) c.narrow_shares-narrow.ensures at.down in
     record {
-      table_value = (c.spread_table-table.ensures, start.requires.0);
-      in_grid = (rw width start.requires.1, across, rw row (few-shares 2 (a.y % 4) (omega arith) at.down));
+      table_value = (c.spread_table-table.ensures, c.requires.0);
+      in_grid = (rw width c.requires.1, across, rw row (few-shares 2 (a.y % 4) (omega arith) at.down));
     }
 
 pub nonzero_rem-x-2 : goal.nonzero_rem-x-2

@@ -24,14 +24,12 @@ loop-i-init c = (omega arith, filled_none _ _)
 
 pub loop-i-preserved : goal.loop-i-preserved
 loop-i-preserved c =
-    let a = c in
-    let e : length a.args.info.weight ≡ 32 = search (rules, a.well_formed.1.0.1.1.1.1.0) in
+    let e : length c.args.info.weight ≡ 32 = search (rules, c.well_formed.1.0.1.1.1.1.0) in
     (omega arith, filled_more c.loop-i.invariant.1 c.weight_2bpp.ensures (omega arith))
 
 pub returns : goal.returns
 returns c =
-    let a = c in
-    let e : length a.args.info.weight ≡ 32 = search (rules, a.well_formed.1.0.1.1.1.1.0) in
-    ends a.args.«data».now a.args.info c.mode-one.ensures
+    let e : length c.args.info.weight ≡ 32 = search (rules, c.well_formed.1.0.1.1.1.1.0) in
+    ends c.args.«data».now c.args.info c.mode-one.ensures
     c.modulation-m.ensures c.fill_2bpp.ensures
     (filled-end 32 c.loop-i.invariant.1 (omega arith) e)

@@ -31,17 +31,14 @@ loop-i-init c = (omega arith, filled_none _ _, flagged-none _)
 
 pub loop-i-preserved : goal.loop-i-preserved
 loop-i-preserved c =
-    let a = c in
-    let w = c in
     let l = c.loop-i in
-    let e : length a.args.info.weight ≡ 32 = search (rules, a.well_formed.1.0.1.1.1.1.0) in
+    let e : length c.args.info.weight ≡ 32 = search (rules, c.well_formed.1.0.1.1.1.1.0) in
     let v = by-table c.mode-one.result
-    c.modulation-m.result l.i w.weights_of-table.ensures
+    c.modulation-m.result l.i c.weights_of-table.ensures
     c.weight_4bpp.ensures in
     (omega arith, filled_more l.invariant.1 v (omega arith), flagged-more l.invariant.2 c.punch_4bpp-flag.ensures)
 
 pub returns : goal.returns
 returns c =
-    let a = c in
-    ends a.args.«data».now a.args.info (omega arith) c.mode-one.ensures
+    ends c.args.«data».now c.args.info (omega arith) c.mode-one.ensures
     c.modulation-m.ensures c.loop-i.invariant.1 c.loop-i.invariant.2
