@@ -1,0 +1,32 @@
+-- `draw::draw_bytes` meets its contract. The loop keeps that the first i bytes are drawn, in half as many steps. Assumes nothing.
+use mathlib.Core.Path.{◌≡◌, refl, ap, ◌∙◌}
+use Prim.Native.Nat.{ℕ, ◌+◌, ◌-◌, ◌/◌, ◌≤◌}
+use native.Mathlib.Omega.{arith}
+use lib.ListN.{length}
+use borrow.Author.Rules.{rules}
+use Rattle.facts.proofs.Tab.{Filled, filled_none, filled_more, filled-length}
+use Rattle.samples.specs.Draw.{state_after, byte_of, drawn_byte}
+use Rattle.samples.proofs.Drawing.{step-to-byte, drawn-end}
+use Rattle.samples.proofs.draw.draw_bytes.Goals as goal
+
+pub loop-i-init : goal.loop-i-init
+unfolding state_after
+loop-i-init c = (omega arith, refl, filled_none _ _)
+
+pub bounds-bytes-i : goal.bounds-bytes-i
+bounds-bytes-i c = omega (arith, filled-length c.loop-i.invariant.2 (omega arith))
+
+pub loop-i-preserved : goal.loop-i-preserved
+loop-i-preserved c =
+    let l = c.loop-i in
+    let k = c.args in
+    let at : c.step_before-reached.result ≡ state_after k.state (l.i / 2 + 1) =
+    c.step_before-reached.ensures ∙ step-to-byte k.state l.i l.invariant.1 in
+    let drawn = c.byte_of.ensures ∙ ap (λ (s : ℕ). byte_of s l.i) at in
+    (omega arith, at ∙ ap (state_after k.state) (omega arith), filled_more l.invariant.2 drawn (omega arith))
+
+pub shape_of-bytes : goal.shape_of-bytes
+shape_of-bytes c = filled-length c.loop-i.invariant.2 (omega arith)
+
+pub returns : goal.returns
+returns c = drawn-end c.loop-i.invariant.2 (omega arith) c.loop-i.invariant.1 (omega arith)
