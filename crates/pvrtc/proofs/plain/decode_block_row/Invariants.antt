@@ -1,0 +1,18 @@
+-- `pvrtc::plain::decode_block_row` meets its contract. The loop keeps that the first bx blocks of the row are laid. Assumes nothing.
+use mathlib.Core.Path.{◌≡◌, refl, ap, ◌∙◌}
+use Prim.Native.Nat.{ℕ, ◌+◌, ◌-◌, ◌*◌, ◌≤◌, ◌<◌}
+use native.Mathlib.Omega.{arith}
+use borrow.Author.Rules.{rules}
+use Rattle.grid.specs.Grid.{block_width, blocks}
+use Rattle.grid.proofs.Counts.{wide, block_start, blocks-cover}
+use Rattle.paint.specs.Sheet.{columns_from}
+use Rattle.paint.proofs.Sheets.{BlocksLaid, no_blocks, next-block, all_blocks, columns-fit, fits_more}
+use Rattle.texel.specs.Texel.{grid_texel}
+use Rattle.pvrtc.proofs.plain.decode_block_row.Given as goal
+
+abbrev pub invariant-loop-bx : goal.invariant-loop-bx
+invariant-loop-bx l =
+    (l.bx ≤ l.bx-end) × BlocksLaid l.row (block_width l.g.is2bpp) (λ x y. grid_texel l.order l.g l.data x (l.by * 4 + y)) l.initial.image l.bx l.image
+
+abbrev pub decreases-loop-bx : goal.decreases-loop-bx
+decreases-loop-bx l = l.bx-end - l.bx

@@ -1,0 +1,181 @@
+-- `pvrtc::row_call::decode_row` meets its contract. The loop keeps that the first x words are the row's texels, and what `InRow` says is held;
+-- it has too that no texel is refused. Assumes nothing.
+use mathlib.Core.Path.{◌≡◌, refl, sym, ap, ap₂, ◌∙◌}
+use mathlib.Core.Logic.{⊎_elim}
+use Prim.Native.Nat.{ℕ, ◌-◌, ◌/◌, ◌%◌, ◌≤◌, ◌<◌}
+use native.Mathlib.Omega.{arith}
+use lib.ListN.{length}
+use borrow.Author.Rules.{rules}
+use Rattle.grid.specs.declared.Grid.{Grid}
+use Rattle.grid.specs.Grid.{block_width}
+use Rattle.grid.specs.Words.{Stands, InGrid}
+use Rattle.grid.proofs.Words.{some-across}
+use Rattle.paint.proofs.Laid.{Row, row-none}
+use Rattle.paint.specs.Paint.{painted}
+use Rattle.pvrtc.proofs.Accepted.{Accepted, accepted, stands, stands-as, block_in, block-as, row_inside, row-roomy, width_small, width_above}
+use Rattle.pvrtc.proofs.InRow.{not-refused, its-word, next_word, Before, Held, held_none, held_first, held-later, held-picture, held_next}
+use Rattle.pvrtc.proofs.InRow.{slides, slides-read}
+use Rattle.pvrtc.proofs.Unique.{by-words, by-none}
+use Rattle.texel.proofs.Shares.{half_high}
+use Rattle.texel.specs.Summed.{with_texels}
+use Rattle.pvrtc.specs.Calls.{refusal}
+use Rattle.pvrtc.specs.Picture.{picture_texel}
+use Rattle.pvrtc.specs.Refusals.{decoded_number}
+use Rattle.pvrtc.specs.declared.Call.TheVariants as call
+use Rattle.pvrtc.proofs.row_call.decode_row.Goals as goal
+use Rattle.pvrtc.proofs.row_call.decode_row.Goals.{At-loop-x, In-Done, In_default-known_texel, Joined-place_of-eq0}
+
+abbrev grid_at : At-loop-x → Grid
+grid_at l = l.grid_of.result
+
+pub returns-in_default : goal.returns-in_default
+returns-in_default c = by-none c.check-checked.ensures c.in_default.is
+
+-- past the checks the call is accepted
+told : (c : In-Done) → let a = c.args in
+    refusal a.p (call.Row a.y (length a.row.now)) a.«data».now ≡ 0
+told c = sym c.check-checked.ensures ∙ ap decoded_number c.in-Done.is
+
+ok_of : (c : In-Done) → let a = c.args in
+    Accepted a.p (call.Row a.y (length a.row.now)) (length a.«data».now)
+ok_of c = let a = c.args in accepted a.p (call.Row a.y (length a.row.now)) (length a.«data».now) (told c)
+
+pub overflow_sub-g : goal.overflow_sub-g
+overflow_sub-g c = rw c.grid_of-g.ensures (some-across (stands (ok_of (goal.at.overflow_sub-g c).In-Done)))
+
+pub first_words-nine-requires : goal.first_words-nine-requires
+first_words-nine-requires c =
+    let told = c in
+    let a = told.args in
+    let ok = ok_of (goal.at.first_words-nine-requires c).In-Done in
+    let some = some-across (stands ok) in
+    let row = (block_in ok 0 a.y (width_above a.p ok.sides) (row_inside a.p a.y (length a.row.now) ok.inside)).down in
+    let grid = c.grid_of-g.ensures in record { table_value = (c.spread_table-table.ensures, stands-as ok grid); in_grid = (rw grid (record { across = omega arith; down = row }), omega arith) }
+
+pub loop-x-init : goal.loop-x-init
+loop-x-init c =
+    let a = c.args in
+    let words = held_none a.p.order c.grid_of-g.result a.«data».now a.y 0 c.first_words-nine.ensures refl in
+    (omega arith, told (goal.at.loop-x-init c).In-Done, row-none _ _ _ _, words)
+
+-- in the loop: the call is accepted, the words stand in the data, and the block of column x in the grid
+ok_at : (l : At-loop-x) → let a = l.args in
+    Accepted a.p (call.Row a.y (length a.row.now)) (length a.«data».now)
+ok_at l = let a = l.args in accepted a.p (call.Row a.y (length a.row.now)) (length a.«data».now) l.loop-x.invariant.1
+
+stands_at : (l : At-loop-x) → Stands (grid_at l) (length l.args.«data».now)
+stands_at l = stands-as (ok_at l) l.grid_of-g.ensures
+
+block_at : (l : At-loop-x) → let a = l.args in let g = grid_at l in
+    l.loop-x.x < a.p.width → InGrid g (l.loop-x.x / block_width g.is2bpp) (a.y / 4)
+block_at l h =
+    let a = l.args in
+    let ok = ok_at l in
+    let row = row_inside a.p a.y (length a.row.now) ok.inside in
+    block-as ok l.grid_of-g.ensures l.loop-x.x a.y h row
+
+pub next_words-next-requires : goal.next_words-next-requires
+next_words-next-requires c =
+    let i = c in
+    let l = i in
+    let table = l.spread_table-table.ensures in record { table_value = (table, stands_at (goal.at.next_words-next-requires c).At-loop-x); in_grid = (rw c.block_of-bx.ensures (block_at (goal.at.next_words-next-requires c).At-loop-x i.loop-x-test.true), omega arith) }
+
+pub texels_in-requires : goal.texels_in-requires
+texels_in-requires c =
+    let i = c in
+    let l = i in
+    let a = l.args in
+    let g = grid_at (goal.at.texels_in-requires c).At-loop-x in
+    let d = a.«data».now in
+    let inside = (block_at (goal.at.texels_in-requires c).At-loop-x i.loop-x-test.true).across in
+    let starts = sym c.place_of.ensures ∙ c.if-place_of-eq0.true in
+    let block = c.block_of-bx.ensures in
+    let words = slides a.p.order g d a.y l.loop-x.x inside starts l.loop-x.invariant.3 block c.next_words-next.ensures in
+    let read = slides-read a.p.order g d a.y l.loop-x.x words in
+    (omega arith, omega arith, read, rw c.block_width-width.ensures (omega (arith, l.loop-x.invariant.3.long, half_high g.is2bpp)))
+
+-- once the words have slid where a block begins
+held : (c : Joined-place_of-eq0) → let l = c in let a = l.args in
+    Held a.p.order (grid_at l) a.«data».now a.y l.loop-x.x c.if-place_of-eq0.nine c.if-place_of-eq0.texels
+held c =
+    let l = c in
+    let a = l.args in
+    let g = grid_at l in
+    let d = a.«data».now in
+    let inside = (block_at l c.loop-x-test.true).across in
+    let place = c.place_of.ensures in
+    ⊎_elim
+    (λ t.
+    let words = t.8 ∙ t.3.ensures in
+    let texels =
+    t.9 ∙ t.6.ensures ∙ ap₂ (λ n (w : ℕ). with_texels a.p.order g.is2bpp n 0 (a.y % 4) w l.loop-x.texels) (sym t.8) t.4.ensures in
+    held_first a.p.order g d a.y l.loop-x.x inside (sym place ∙ t.0.taken) l.loop-x.invariant.3 t.1.ensures words texels)
+    (λ e. rw (e.1, e.2) (held-later a.p.order g d a.y l.loop-x.x (λ z. e.0.left (place ∙ z)) l.loop-x.invariant.3))
+    c.if-place_of-eq0.branch
+
+pub known_texel-requires : goal.known_texel-requires
+known_texel-requires c =
+    let l = c in
+    let a = l.args in
+    held-picture a.p a.«data».now a.y l.loop-x.x l.grid_of-g.ensures (held (goal.at.known_texel-requires c).Joined-place_of-eq0)
+
+-- the branch of a refused texel is not reached
+unreached : In_default-known_texel → ⊥
+unreached c =
+    let i = c in
+    let l = i in
+    let a = l.args in
+    not-refused a.p a.«data».now l.loop-x.x a.y (length a.row.now) (ok_at l) i.loop-x-test.true
+    c.known_texel.ensures c.in_default-known_texel.is
+
+pub shape_of-row-in_default-known_texel : goal.shape_of-row-in_default-known_texel
+shape_of-row-in_default-known_texel c = absurd (unreached (goal.at.shape_of-row-in_default-known_texel c).In_default-known_texel)
+
+pub returns-in_default-known_texel : goal.returns-in_default-known_texel
+returns-in_default-known_texel c = absurd (unreached (goal.at.returns-in_default-known_texel c).In_default-known_texel)
+
+-- column x is one of the row's, and word x one of the lent ones
+narrow : (l : At-loop-x) → let a = l.args in (a.p.width ≤ 65536) × (a.p.width ≤ length a.row.now)
+narrow l =
+    let a = l.args in
+    let ok = ok_at l in
+    (width_small a.p ok.small, row-roomy a.p a.y (length a.row.now) ok.roomy)
+
+pub offset_bounds-row-x : goal.offset_bounds-row-x
+offset_bounds-row-x c = let i = c in omega (arith, narrow (goal.at.offset_bounds-row-x c).At-loop-x, i.loop-x-test.taken)
+
+pub bounds-row-x : goal.bounds-row-x
+bounds-row-x c = let i = c in omega (arith, narrow (goal.at.bounds-row-x c).At-loop-x, i.loop-x.inv.2.len, i.loop-x-test.taken)
+
+pub overflow_step-x : goal.overflow_step-x
+overflow_step-x c = let i = c in omega (arith, narrow (goal.at.overflow_step-x c).At-loop-x, i.loop-x-test.taken)
+
+pub loop-x-smaller : goal.loop-x-smaller
+loop-x-smaller c = omega (arith, c.loop-x-test.taken)
+
+pub loop-x-preserved : goal.loop-x-preserved
+loop-x-preserved c =
+    let i = c in
+    let l = i in
+    let a = l.args in
+    let d = a.«data».now in
+    let inv = l.loop.inv in
+    let taken = i.loop-x-test.taken in
+    let read = c.known_texel.ensures in
+    let its = its-word a.p d l.loop.x a.y (length a.row.now) (ok_at l) taken read c.in-Word.is in (
+      omega (arith, taken),
+      inv.1,
+      next_word inv.2 its taken (omega (arith, narrow l, taken)),
+      held_next a.p.order (grid_at l) d a.y l.loop.x (held (goal.at.loop-x-preserved c).Joined-place_of-eq0),
+    )
+
+pub shape_of-row : goal.shape_of-row
+shape_of-row c = c.loop-x.invariant.2.len
+
+pub returns : goal.returns
+returns c =
+    let a = c.args in
+    let l = c.loop-x in
+    let all : l.x ≡ a.p.width = omega (arith, c.loop-x-test.false, l.invariant.0) in
+    let texel : ℕ → ℕ → ℕ = λ x y. picture_texel a.p a.«data».now x a.y in
+    by-words l.invariant.1 (l.invariant.2.is ∙ ap (λ (n : ℕ). painted 0 a.p.width n 1 texel a.row.now) all)
