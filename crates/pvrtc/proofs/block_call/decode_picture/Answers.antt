@@ -17,9 +17,8 @@ returns-in_default c = by-none c.check-checked.ensures c.in_default.is
 going : (c : After-num_blocks_y-by-end) → let a = c.args in
     Going a.p a.«data».now a.image.now c.grid_of-g.result c.sheet_of-s.result c.num_blocks_y-by-end.result
 going c =
-    let accepted = c in
     record {
-      told = sym accepted.check-checked.ensures ∙ ap decoded_number accepted.in-Done.is;
+      told = sym c.check-checked.ensures ∙ ap decoded_number c.in-Done.is;
       grid = c.grid_of-g.ensures;
       sheet = c.sheet_of-s.ensures;
       rows = c.num_blocks_y-by-end.ensures;
@@ -36,9 +35,8 @@ rows_from-requires c = row-asked (going (goal.at.rows_from-requires c).After-num
 
 pub decode_block_row-requires : goal.decode_block_row-requires
 decode_block_row-requires c =
-    let i = c in
-    let l = i.loop-by in
-    row-ready (going (goal.at.decode_block_row-requires c).After-num_blocks_y-by-end) l.by i.loop-by-test.true c.rows_from.ensures l.invariant.1.len
+    let l = c.loop-by in
+    row-ready (going (goal.at.decode_block_row-requires c).After-num_blocks_y-by-end) l.by c.loop-by-test.true c.rows_from.ensures l.invariant.1.len
 
 pub overflow_step-by : goal.overflow_step-by
 overflow_step-by c = omega (arith, c.loop-by-test.true)
@@ -48,11 +46,10 @@ loop-by-smaller c = omega (arith, c.loop-by-test.true)
 
 pub loop-by-preserved : goal.loop-by-preserved
 loop-by-preserved c =
-    let i = c in
-    let l = i.loop-by in
+    let l = c.loop-by in
     let row = c.rows_from.ensures in (
-      omega (arith, i.loop-by-test.true),
-      row_laid (going (goal.at.loop-by-preserved c).After-num_blocks_y-by-end) l.by i.loop-by-test.true row l.invariant.1 c.decode_block_row.ensures,
+      omega (arith, c.loop-by-test.true),
+      row_laid (going (goal.at.loop-by-preserved c).After-num_blocks_y-by-end) l.by c.loop-by-test.true row l.invariant.1 c.decode_block_row.ensures,
     )
 
 pub shape_of-image : goal.shape_of-image

@@ -8,8 +8,7 @@ use Rattle.pvrtc.proofs.check.has_short_data.Goals as goal
 
 pub need_of-requires : goal.need_of-requires
 need_of-requires c =
-    let start = c in
-    rw c.grid_of.ensures (few-across start.args.p start.requires, few-down start.args.p start.requires)
+    rw c.grid_of.ensures (few-across c.args.p c.requires, few-down c.args.p c.requires)
 
 pub returns : goal.returns
 returns c = ap (ltb c.args.len) (c.need_of.ensures ∙ ap word_bytes c.grid_of.ensures)

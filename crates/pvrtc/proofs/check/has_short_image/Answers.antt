@@ -8,8 +8,7 @@ use Rattle.pvrtc.proofs.check.has_short_image.Goals as goal
 
 pub overflow_mul-result : goal.overflow_mul-result
 overflow_mul-result c =
-    let a = c in
-    omega (arith, mul-le-mul (width_small a.args.p a.requires) (height-small a.args.p a.requires))
+    omega (arith, mul-le-mul (width_small c.args.p c.requires) (height-small c.args.p c.requires))
 
 pub returns-in-Texel : goal.returns-in-Texel
 unfolding short_image

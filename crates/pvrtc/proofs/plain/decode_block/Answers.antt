@@ -14,16 +14,14 @@ applicate_color-buffer-requires c =
 
 pub copy_block_buffer-requires : goal.copy_block_buffer-requires
 copy_block_buffer-requires c =
-    let start = c in
-    let part = start.requires.fits in
+    let part = c.requires.fits in
     let width = c.block_width.ensures in
-    (part.0, rw width part.1, rw width (omega (arith, mul-le-mul part.2 (half_high start.args.g.is2bpp))))
+    (part.0, rw width part.1, rw width (omega (arith, mul-le-mul part.2 (half_high c.args.g.is2bpp))))
 
 pub returns : goal.returns
 returns c =
-    let start = c in
-    let a = start.args in
-    let part = start.requires.fits in
+    let a = c.args in
+    let part = c.requires.fits in
     buffer-laid a.order a.g a.«data».now a.bx a.by a.part a.image.now part.0 part.1 part.2
     c.block_width.ensures
     c.nine_words-nine.ensures

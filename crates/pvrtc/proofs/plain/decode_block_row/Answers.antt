@@ -17,8 +17,7 @@ loop-bx-init c =
     (omega arith, no_blocks a.row (block_width a.g.is2bpp) (λ x y. grid_texel a.order a.g a.«data».now x (a.by * 4 + y)) a.image.now)
 
 -- block bx starts within the row
-starts : (c : In-loop-bx) → let start = c in
-    c.loop-bx.bx * c.block_width-width.result < start.args.row.width
+starts : (c : In-loop-bx) → c.loop-bx.bx * c.block_width-width.result < c.args.row.width
 starts c =
     let a = c.args in
     let some = rw c.num_blocks_x-bx-end.ensures at c.loop-bx-test.true in
@@ -33,12 +32,11 @@ columns_from-requires c = (fits_more c.requires.fits (omega arith), starts (goal
 
 pub decode_block-requires : goal.decode_block-requires
 decode_block-requires c =
-    let start = c in
     let part = c.columns_from.ensures in
     let width = c.block_width-width.ensures in
     let l = c.loop-bx in
-    let across : l.bx < start.args.g.across = omega
-    (arith, c.loop-bx-test.true, c.num_blocks_x-bx-end.ensures, start.requires.cover) in record { stands = (start.requires.words, record { across = across; down = start.requires.down }); fits = (rw (part, l.invariant.1.len) (columns-fit start.requires.fits _ _ (starts (goal.at.decode_block-requires c).In-loop-bx)), rw (part, width) (omega arith), rw part start.requires.few) }
+    let across : l.bx < c.args.g.across = omega
+    (arith, c.loop-bx-test.true, c.num_blocks_x-bx-end.ensures, c.requires.cover) in record { stands = (c.requires.words, record { across = across; down = c.requires.down }); fits = (rw (part, l.invariant.1.len) (columns-fit c.requires.fits _ _ (starts (goal.at.decode_block-requires c).In-loop-bx)), rw (part, width) (omega arith), rw part c.requires.few) }
 
 pub overflow_step-bx : goal.overflow_step-bx
 overflow_step-bx c = omega (arith, c.loop-bx-test.true)
@@ -48,15 +46,13 @@ loop-bx-smaller c = omega (arith, c.loop-bx-test.true)
 
 pub loop-bx-preserved : goal.loop-bx-preserved
 loop-bx-preserved c =
-    let start = c in
-    let a = start.args in
+    let a = c.args in
     let l = c.loop-bx in
-    let inside = c in
     let width = c.block_width-width.ensures in
     let part = c.columns_from.ensures ∙ ap (λ (w : ℕ). columns_from a.row (l.bx * w) w) width in (
-      omega (arith, inside.loop-bx-test.true),
+      omega (arith, c.loop-bx-test.true),
       next-block a.row (block_width a.g.is2bpp) (λ x y. grid_texel a.order a.g a.«data».now x (a.by * 4 + y)) a.image.now
-          start.requires.fits l.bx _
+          c.requires.fits l.bx _
           c.decode_block.ensures (rw width at (starts (goal.at.loop-bx-preserved c).In-loop-bx)) part (λ x y hx hy. refl) l.invariant.1,
     )
 

@@ -23,10 +23,10 @@ use Rattle.pvrtc.specs.Picture.{picture_texel}
 use Rattle.pvrtc.specs.Refusals.{decoded_number}
 use Rattle.pvrtc.specs.declared.Call.TheVariants as call
 use Rattle.pvrtc.proofs.row_call.decode_row.Goals as goal
-use Rattle.pvrtc.proofs.row_call.decode_row.Goals.{At-loop-x, In-Done, In_default-known_texel, Joined-place_of-eq0}
+use Rattle.pvrtc.proofs.row_call.decode_row.Goals.{At-loop-x, In-Done, In_default-known_texel, Joined-place_of-eq0, then-place_of-eq0, else-place_of-eq0}
 
 abbrev grid_at : At-loop-x → Grid
-grid_at l = l.grid_of.result
+grid_at l = l.grid_of-g.result
 
 pub returns-in_default : goal.returns-in_default
 returns-in_default c = by-none c.check-checked.ensures c.in_default.is
@@ -45,8 +45,7 @@ overflow_sub-g c = rw c.grid_of-g.ensures (some-across (stands (ok_of (goal.at.o
 
 pub first_words-nine-requires : goal.first_words-nine-requires
 first_words-nine-requires c =
-    let told = c in
-    let a = told.args in
+    let a = c.args in
     let ok = ok_of (goal.at.first_words-nine-requires c).In-Done in
     let some = some-across (stands ok) in
     let row = (block_in ok 0 a.y (width_above a.p ok.sides) (row_inside a.p a.y (length a.row.now) ok.inside)).down in
@@ -76,63 +75,62 @@ block_at l h =
 
 pub next_words-next-requires : goal.next_words-next-requires
 next_words-next-requires c =
-    let i = c in
-    let l = i in
-    let table = l.spread_table-table.ensures in record { table_value = (table, stands_at (goal.at.next_words-next-requires c).At-loop-x); in_grid = (rw c.block_of-bx.ensures (block_at (goal.at.next_words-next-requires c).At-loop-x i.loop-x-test.true), omega arith) }
+    let table = c.spread_table-table.ensures in record { table_value = (table, stands_at (goal.at.next_words-next-requires c).At-loop-x); in_grid = (rw c.block_of-bx.ensures (block_at (goal.at.next_words-next-requires c).At-loop-x c.loop-x-test.true), omega arith) }
 
 pub texels_in-requires : goal.texels_in-requires
 texels_in-requires c =
-    let i = c in
-    let l = i in
-    let a = l.args in
+    let a = c.args in
     let g = grid_at (goal.at.texels_in-requires c).At-loop-x in
     let d = a.«data».now in
-    let inside = (block_at (goal.at.texels_in-requires c).At-loop-x i.loop-x-test.true).across in
+    let inside = (block_at (goal.at.texels_in-requires c).At-loop-x c.loop-x-test.true).across in
     let starts = sym c.place_of.ensures ∙ c.if-place_of-eq0.true in
     let block = c.block_of-bx.ensures in
-    let words = slides a.p.order g d a.y l.loop-x.x inside starts l.loop-x.invariant.3 block c.next_words-next.ensures in
-    let read = slides-read a.p.order g d a.y l.loop-x.x words in
-    (omega arith, omega arith, read, rw c.block_width-width.ensures (omega (arith, l.loop-x.invariant.3.long, half_high g.is2bpp)))
+    let words = slides a.p.order g d a.y c.loop-x.x inside starts c.loop-x.invariant.3 block c.next_words-next.ensures in
+    let read = slides-read a.p.order g d a.y c.loop-x.x words in
+    (omega arith, omega arith, read, rw c.block_width-width.ensures (omega (arith, c.loop-x.invariant.3.long, half_high g.is2bpp)))
 
 -- once the words have slid where a block begins
-held : (c : Joined-place_of-eq0) → let l = c in let a = l.args in
-    Held a.p.order (grid_at l) a.«data».now a.y l.loop-x.x c.if-place_of-eq0.nine c.if-place_of-eq0.texels
-held c =
-    let l = c in
-    let a = l.args in
-    let g = grid_at l in
+held : (c : Joined-place_of-eq0) → let a = c.args in let g = c.grid_of-g.result in
+    c.loop-x.x / block_width g.is2bpp < g.across → Held a.p.order g a.«data».now a.y c.loop-x.x c.if-place_of-eq0.nine c.if-place_of-eq0.texels
+held c inside =
+    let a = c.args in
+    let l = c.loop-x in
+    let g = c.grid_of-g.result in
     let d = a.«data».now in
-    let inside = (block_at l c.loop-x-test.true).across in
     let place = c.place_of.ensures in
-    ⊎_elim
-    (λ t.
-    let words = t.8 ∙ t.3.ensures in
-    let texels =
-    t.9 ∙ t.6.ensures ∙ ap₂ (λ n (w : ℕ). with_texels a.p.order g.is2bpp n 0 (a.y % 4) w l.loop-x.texels) (sym t.8) t.4.ensures in
-    held_first a.p.order g d a.y l.loop-x.x inside (sym place ∙ t.0.taken) l.loop-x.invariant.3 t.1.ensures words texels)
-    (λ e. rw (e.1, e.2) (held-later a.p.order g d a.y l.loop-x.x (λ z. e.0.left (place ∙ z)) l.loop-x.invariant.3))
-    c.if-place_of-eq0.branch
+    elim c.if-place_of-eq0.branch [
+      | then-place_of-eq0 t ↦
+          let words = t.nine-is ∙ t.next_words-next.ensures in
+          let texels =
+          t.texels-is ∙ t.texels_in.ensures
+          ∙ ap₂ (λ n (w : ℕ). with_texels a.p.order g.is2bpp n 0 (a.y % 4) w l.texels) (sym t.nine-is) t.block_width-width.ensures in
+          held_first a.p.order g d a.y l.x inside (sym place ∙ t.if-place_of-eq0.true) l.invariant.3 t.block_of-bx.ensures words texels
+      | else-place_of-eq0 e ↦
+          rw (e.nine-is, e.texels-is) (held-later a.p.order g d a.y l.x (λ z. e.if-place_of-eq0.false (place ∙ z)) l.invariant.3)
+    ]
 
 pub known_texel-requires : goal.known_texel-requires
 known_texel-requires c =
-    let l = c in
-    let a = l.args in
-    held-picture a.p a.«data».now a.y l.loop-x.x l.grid_of-g.ensures (held (goal.at.known_texel-requires c).Joined-place_of-eq0)
+    let at = goal.at.known_texel-requires c in
+    held-picture c.args.p c.args.«data».now c.args.y c.loop-x.x c.grid_of-g.ensures
+    (held at.Joined-place_of-eq0 (block_at at.At-loop-x c.loop-x-test.true).across)
 
 -- the branch of a refused texel is not reached
-unreached : In_default-known_texel → ⊥
-unreached c =
-    let i = c in
-    let l = i in
-    let a = l.args in
-    not-refused a.p a.«data».now l.loop-x.x a.y (length a.row.now) (ok_at l) i.loop-x-test.true
+unreached : (c : In_default-known_texel) → Accepted c.args.p (call.Row c.args.y (length c.args.row.now)) (length c.args.«data».now) → ⊥
+unreached c ok =
+    let a = c.args in
+    not-refused a.p a.«data».now c.loop-x.x a.y (length a.row.now) ok c.loop-x-test.true
     c.known_texel.ensures c.in_default-known_texel.is
 
 pub shape_of-row-in_default-known_texel : goal.shape_of-row-in_default-known_texel
-shape_of-row-in_default-known_texel c = absurd (unreached (goal.at.shape_of-row-in_default-known_texel c).In_default-known_texel)
+shape_of-row-in_default-known_texel c =
+    let at = goal.at.shape_of-row-in_default-known_texel c in
+    absurd (unreached at.In_default-known_texel (ok_at at.At-loop-x))
 
 pub returns-in_default-known_texel : goal.returns-in_default-known_texel
-returns-in_default-known_texel c = absurd (unreached (goal.at.returns-in_default-known_texel c).In_default-known_texel)
+returns-in_default-known_texel c =
+    let at = goal.at.returns-in_default-known_texel c in
+    absurd (unreached at.In_default-known_texel (ok_at at.At-loop-x))
 
 -- column x is one of the row's, and word x one of the lent ones
 narrow : (l : At-loop-x) → let a = l.args in (a.p.width ≤ 65536) × (a.p.width ≤ length a.row.now)
@@ -142,31 +140,30 @@ narrow l =
     (width_small a.p ok.small, row-roomy a.p a.y (length a.row.now) ok.roomy)
 
 pub offset_bounds-row-x : goal.offset_bounds-row-x
-offset_bounds-row-x c = let i = c in omega (arith, narrow (goal.at.offset_bounds-row-x c).At-loop-x, i.loop-x-test.taken)
+offset_bounds-row-x c = omega (arith, narrow (goal.at.offset_bounds-row-x c).At-loop-x, c.loop-x-test.true)
 
 pub bounds-row-x : goal.bounds-row-x
-bounds-row-x c = let i = c in omega (arith, narrow (goal.at.bounds-row-x c).At-loop-x, i.loop-x.inv.2.len, i.loop-x-test.taken)
+bounds-row-x c = omega (arith, narrow (goal.at.bounds-row-x c).At-loop-x, c.loop-x.invariant.2.len, c.loop-x-test.true)
 
 pub overflow_step-x : goal.overflow_step-x
-overflow_step-x c = let i = c in omega (arith, narrow (goal.at.overflow_step-x c).At-loop-x, i.loop-x-test.taken)
+overflow_step-x c = omega (arith, narrow (goal.at.overflow_step-x c).At-loop-x, c.loop-x-test.true)
 
 pub loop-x-smaller : goal.loop-x-smaller
-loop-x-smaller c = omega (arith, c.loop-x-test.taken)
+loop-x-smaller c = omega (arith, c.loop-x-test.true)
 
 pub loop-x-preserved : goal.loop-x-preserved
 loop-x-preserved c =
-    let i = c in
-    let l = i in
-    let a = l.args in
+    let at = goal.at.loop-x-preserved c in
+    let l = at.At-loop-x in
+    let a = c.args in
     let d = a.«data».now in
-    let inv = l.loop.inv in
-    let taken = i.loop-x-test.taken in
-    let read = c.known_texel.ensures in
-    let its = its-word a.p d l.loop.x a.y (length a.row.now) (ok_at l) taken read c.in-Word.is in (
+    let inv = c.loop-x.invariant in
+    let taken = c.loop-x-test.true in
+    let its = its-word a.p d c.loop-x.x a.y (length a.row.now) (ok_at l) taken c.known_texel.ensures c.in-Word.is in (
       omega (arith, taken),
       inv.1,
       next_word inv.2 its taken (omega (arith, narrow l, taken)),
-      held_next a.p.order (grid_at l) d a.y l.loop.x (held (goal.at.loop-x-preserved c).Joined-place_of-eq0),
+      held_next a.p.order c.grid_of-g.result d a.y c.loop-x.x (held at.Joined-place_of-eq0 (block_at l taken).across),
     )
 
 pub shape_of-row : goal.shape_of-row
