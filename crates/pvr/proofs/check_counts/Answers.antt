@@ -24,16 +24,13 @@ returns-then-u32_at-ne1 c = holds-here _ _ _ (not-one c.u32_at.ensures.0 c.if-u3
 
 pub returns-then-u32_at-ne1-2 : goal.returns-then-u32_at-ne1-2
 returns-then-u32_at-ne1-2 c =
-    let depth = c in
-    holds_later _ _ _ (one depth.u32_at.ensures.0 depth.if-u32_at-ne1.false)
+    holds_later _ _ _ (one c.u32_at.ensures.0 c.if-u32_at-ne1.false)
     (holds-here _ _ _ (not-one c.u32_at-2.ensures.0 c.if-u32_at-ne1-2.true))
 
 pub returns-then-u32_at-ne1-3 : goal.returns-then-u32_at-ne1-3
 returns-then-u32_at-ne1-3 c =
-    let surfaces = c in
-    let depth = surfaces in
-    holds_later _ _ _ (one depth.u32_at.ensures.0 depth.if-u32_at-ne1.false)
-    (holds_later _ _ _ (one surfaces.u32_at-2.ensures.0 surfaces.if-u32_at-ne1-2.false)
+    holds_later _ _ _ (one c.u32_at.ensures.0 c.if-u32_at-ne1.false)
+    (holds_later _ _ _ (one c.u32_at-2.ensures.0 c.if-u32_at-ne1-2.false)
     (holds-here _ _ _ (not-one c.u32_at-3.ensures.0 c.if-u32_at-ne1-3.true)))
 
 -- past the depth, the surfaces and the faces, what the levels say is said

@@ -1,0 +1,14 @@
+-- `levels::place::level_at` meets its contract: after i steps it is at level i. The measure is how many are left. Assumes nothing.
+use mathlib.Core.Path.{◌≡◌, ap, ◌∙◌}
+use Prim.Native.Nat.{◌-◌, ◌≤◌}
+use native.Mathlib.Omega.{arith}
+use Rattle.levels.specs.Inner.{next_level}
+use Rattle.levels.specs.Levels.{level_at}
+use Rattle.levels.proofs.Ranges.{first-is, next-is, small_at}
+use Rattle.levels.proofs.place.level_at.Given as goal
+
+abbrev pub invariant-loop : goal.invariant-loop
+invariant-loop l = (l.level ≡ level_at l.l l.counter) × (l.counter ≤ l.k)
+
+abbrev pub decreases-loop : goal.decreases-loop
+decreases-loop l = l.k - l.counter
