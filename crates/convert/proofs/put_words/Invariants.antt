@@ -1,0 +1,16 @@
+-- `convert::put_words` meets its contract. The loop keeps that the first i bytes are laid. Assumes nothing.
+use mathlib.Core.Path.{◌≡◌, ap, ◌∙◌}
+use Prim.Native.Nat.{ℕ, ◌-◌, ◌*◌, ◌/◌, ◌%◌, ◌≤◌}
+use native.Mathlib.Omega.{arith}
+use lib.ListN.{get_or}
+use borrow.Author.Rules.{rules}
+use Rattle.paint.specs.Paint.{painted}
+use Rattle.paint.proofs.Laid.{Row, row-none, row_word}
+use Rattle.files.specs.Fields.{byte_of}
+use Rattle.convert.proofs.put_words.Given as goal
+
+abbrev pub invariant-loop-i : goal.invariant-loop-i
+invariant-loop-i l = (l.i ≤ 4 * l.n) × Row (λ x _. byte_of (get_or l.words (x / 4) 0) (x % 4)) l.initial.out 18 (4 * l.n) l.i l.out
+
+abbrev pub decreases-loop-i : goal.decreases-loop-i
+decreases-loop-i l = 4 * l.n - l.i
