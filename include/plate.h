@@ -1,4 +1,4 @@
-/* The plate decoder, as C calls it: libcapi.a has these functions.
+/* The plate decoder, as C calls it: libcapi.a, which `tools/native capi libcapi.a` writes, has these functions.
  *
  * They take a run of bytes as a pointer and a length, and lent words as a pointer and their number. They keep within both, call nothing but memcpy,
  * and hold nothing back. A refusal is a number, 0 for none:

@@ -1,4 +1,4 @@
-// What C calls: include/plate.h declares these functions. A slice is a pointer and a length in C.
+// What C calls: include/plate.h declares these functions, and `capi_c` exports them. A slice is a pointer and a length in C.
 #![tactic(auto)]
 
 ghost use Rattle.std.specs.Prelude.{◌≡◌, cond, eqb};

@@ -167,7 +167,7 @@ pub fn convert(file: &[u8], image: &mut [u32], out: &mut [u8]) -> usize
     }
 }
 
-// The same for C, of which nothing can be asked: with too little room for some file it answers 0 and writes nothing.
+// The same for C, of which nothing can be asked, exported by `convert_c`: with too little room for some file it answers 0 and writes nothing.
 #[unsafe(no_mangle)]
 pub extern "C" fn plate_convert(file: &[u8], image: &mut [u32], out: &mut [u8]) -> usize
     ensures { ConvertedInRoom file.now image.old image.new out.old out.new result }
