@@ -1,0 +1,9 @@
+-- `capi::plate_picture` meets its contract, as the call over a description does. Assumes nothing.
+use borrow.Author.Rules.{rules}
+use Rattle.capi.proofs.Answers.{of-written}
+use Rattle.capi.proofs.plate_picture.Goals as goal
+
+pub returns : goal.returns
+returns c =
+    of-written c.number_of.ensures
+    (rw c.picture_of.ensures at c.decode_picture.ensures)
