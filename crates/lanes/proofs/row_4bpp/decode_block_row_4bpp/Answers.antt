@@ -88,8 +88,8 @@ column_at-right-requires c =
 
 pub codes_at-next-requires : goal.codes_at-next-requires
 codes_at-next-requires c =
-    let r = the_row (goal.at.codes_at-next-requires c).After-row_addresses-addresses in
-    in-column r (part-seen r c.loop-bx.bx 2 c.next_column.ensures c.part_across-part.ensures)
+    let row = the_row (goal.at.codes_at-next-requires c).After-row_addresses-addresses in
+    in-column row (part-seen row c.loop-bx.bx 2 c.next_column.ensures c.part_across-part.ensures)
 
 pub overflow_mul-bx : goal.overflow_mul-bx
 overflow_mul-bx c = omega (arith, starts (goal.at.overflow_mul-bx c).In-loop-bx)
