@@ -118,7 +118,8 @@ module _ (file : List ℕ) {r : Fields} (read : FieldsRead file r) where
     by-stored q = rw (q ∙ ap header_of is-plate) (by (cut_short file) refl)
       where
         by : (t : Bool) → cut_short file ≡ t
-            → HeaderRead file (cond t (Refused CutShort) (Plate (width_field file) (height_field file) (is_two file) (payload_offset file) (size_word_of file)))
+            → HeaderRead file
+            (cond t (Refused CutShort) (Plate (width_field file) (height_field file) (is_two file) (payload_offset file) (size_word_of file)))
         by true cut = by-refusal (said-later (field_checks file) _ tt none (holds-here _ _ _ cut))
         by false whole =
             by-plate

@@ -1,5 +1,4 @@
 -- `capi::picture_of` meets its contract. Assumes nothing.
-use borrow.Author.Rules.{rules}
 use Rattle.capi.proofs.picture_of.Goals as goal
 
 pub returns : goal.returns

@@ -1,5 +1,5 @@
 use mathlib.Core.Path.{refl}
-use Rattle.capi.proofs.Answers.{width-1, height-2, bits-3, payload-4, no_other}
+use Rattle.capi.proofs.Answers.{width-1, height-2, bits-3, payload-4}
 use Rattle.files.specs.Fields.{bits_of}
 use Rattle.capi.proofs.plate_field.Goals as goal
 

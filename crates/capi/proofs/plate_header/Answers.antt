@@ -1,5 +1,4 @@
 -- `capi::plate_header` meets its contract. Assumes nothing.
-use borrow.Author.Rules.{rules}
 use Rattle.capi.proofs.Answers.{field-of-refused, field-of-plate}
 use Rattle.capi.proofs.plate_header.Goals as goal
 

@@ -1,5 +1,4 @@
 -- `capi::plate_ktx` meets its contract. Assumes nothing.
-use borrow.Author.Rules.{rules}
 use Rattle.capi.proofs.Ktx.{field-of-refused, field-of-plate}
 use Rattle.capi.proofs.plate_ktx.Goals as goal
 

@@ -1,6 +1,5 @@
 -- `capi::plate_ktx_picture` meets its contract: C's number is the order's. Assumes nothing.
 use mathlib.Core.Path.{◌∙◌}
-use borrow.Author.Rules.{rules}
 use Rattle.capi.proofs.plate_ktx_picture.Goals as goal
 
 pub returns : goal.returns

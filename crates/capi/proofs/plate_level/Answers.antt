@@ -1,6 +1,5 @@
 -- `capi::plate_level` meets its contract: C's number is the order's. Assumes nothing.
 use mathlib.Core.Path.{◌∙◌}
-use borrow.Author.Rules.{rules}
 use Rattle.capi.proofs.plate_level.Goals as goal
 
 pub returns : goal.returns

@@ -1,5 +1,4 @@
 -- `capi::plate_level_field` meets its contract. Assumes nothing.
-use borrow.Author.Rules.{rules}
 use Rattle.capi.proofs.Level.{field-of-refused, field-of-level}
 use Rattle.capi.proofs.plate_level_field.Goals as goal
 

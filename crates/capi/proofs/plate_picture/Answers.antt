@@ -1,5 +1,4 @@
 -- `capi::plate_picture` meets its contract, as the call over a description does. Assumes nothing.
-use borrow.Author.Rules.{rules}
 use Rattle.capi.proofs.Answers.{of-written}
 use Rattle.capi.proofs.plate_picture.Goals as goal
 

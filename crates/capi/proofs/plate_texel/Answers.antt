@@ -1,7 +1,6 @@
 -- `capi::plate_texel` meets its contract: `Answers` turns the call's answer into a number. Assumes nothing.
 use Prim.Native.Nat.{◌≤◌}
 use native.Mathlib.Omega.{arith}
-use borrow.Author.Rules.{rules}
 use Rattle.capi.proofs.Answers.{of_word, of-refusal}
 use Rattle.capi.specs.Plate.{plate}
 use Rattle.pvrtc.proofs.Unique.{number_small}

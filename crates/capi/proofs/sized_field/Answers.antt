@@ -1,6 +1,5 @@
 -- `capi::sized_field` meets its contract. Assumes nothing.
 use mathlib.Core.Path.{refl}
-use borrow.Author.Rules.{rules}
 use borrow.Author.Tests.{ne_eqb}
 use Rattle.capi.proofs.sized_field.Goals as goal
 

@@ -1,6 +1,5 @@
 -- `convert::convert` meets its contract. Assumes nothing.
 use native.Mathlib.Omega.{arith}
-use borrow.Author.Rules.{rules}
 use Rattle.convert.proofs.Whole.{number_small, by-header, by-plate}
 use Rattle.convert.proofs.convert.Goals as goal
 

@@ -1,7 +1,6 @@
 -- `convert::convert_plate` meets its contract. Assumes nothing.
 use mathlib.Core.Path.{◌≡◌}
 use native.Mathlib.Omega.{arith}
-use borrow.Author.Rules.{rules}
 use Rattle.facts.specs.Checks.{first_of}
 use Rattle.pvrtc.specs.Calls.{BlockDecoded}
 use Rattle.pvrtc.proofs.Unique.{number_small}
@@ -40,12 +39,14 @@ put_refused-requires-in-Refused c =
 pub returns-in-Done : goal.returns-in-Done
 returns-in-Done c =
     let a = c.args in
-    by-picture a.s a.«data».now (none-exceeded (goal.at.returns-in-Done c).After-picture_of) c.requires.words (call (goal.at.returns-in-Done c).After-decode_picture-decoded)
+    by-picture a.s a.«data».now (none-exceeded (goal.at.returns-in-Done c).After-picture_of) c.requires.words
+    (call (goal.at.returns-in-Done c).After-decode_picture-decoded)
     c.in-Done.is c.put_tga.ensures
 
 pub returns-in-Refused : goal.returns-in-Refused
 returns-in-Refused c =
     let a = c.args in
-    by_call a.s a.«data».now (none-exceeded (goal.at.returns-in-Refused c).After-picture_of) c.requires.words (call (goal.at.returns-in-Refused c).After-decode_picture-decoded)
+    by_call a.s a.«data».now (none-exceeded (goal.at.returns-in-Refused c).After-picture_of) c.requires.words
+    (call (goal.at.returns-in-Refused c).After-decode_picture-decoded)
     c.in-Refused.is c.refusal_number.ensures
     c.put_refused-in-Refused.ensures

@@ -1,5 +1,4 @@
 -- `convert::picture_of` meets its contract. Assumes nothing.
-use borrow.Author.Rules.{rules}
 use Rattle.convert.proofs.picture_of.Goals as goal
 
 pub returns : goal.returns

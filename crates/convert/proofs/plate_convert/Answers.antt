@@ -1,5 +1,4 @@
 -- `convert::plate_convert` meets its contract. Assumes nothing.
-use borrow.Author.Rules.{rules}
 use Rattle.convert.proofs.InRoom.{few_words, few_bytes, with-room}
 use Rattle.convert.proofs.plate_convert.Goals as goal
 

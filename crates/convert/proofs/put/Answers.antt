@@ -1,11 +1,11 @@
 -- `convert::put` meets its contract. The loop keeps that the first i bytes are laid. Assumes nothing.
 use mathlib.Core.List.{List, ◌++◌}
 use mathlib.Core.Path.{◌≡◌, refl, ap, ◌∙◌}
-use Prim.Native.Nat.{ℕ, ◌-◌, ◌≤◌}
+use Prim.Native.Nat.{ℕ}
 use native.Mathlib.Omega.{arith}
 use lib.ListN.{length, get_or, drop}
 use Rattle.facts.specs.Tab.{tab}
-use Rattle.facts.proofs.Tab.{Filled, filled_none, filled_more, filled-length, tab-of}
+use Rattle.facts.proofs.Tab.{filled_none, filled_more, filled-length, tab-of}
 use Rattle.convert.proofs.put.Goals as goal
 
 pub loop-i-init : goal.loop-i-init

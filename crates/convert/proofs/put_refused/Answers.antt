@@ -1,5 +1,4 @@
 -- `convert::put_refused` meets its contract: a number below 10 has one digit, any other below 100 has two. Assumes nothing.
-use borrow.Author.Rules.{rules}
 use Rattle.convert.proofs.Layouts.{one-digit, two_digits, is-laid}
 use Rattle.convert.proofs.put_refused.Goals as goal
 

@@ -1,7 +1,6 @@
 -- `convert::put_tga` meets its contract: the words' bytes stand behind the header. Assumes nothing.
 use native.Mathlib.Omega.{arith}
 use lib.ListN.{get_or}
-use borrow.Author.Rules.{rules}
 use Rattle.convert.proofs.Layouts.{tga-laid}
 use Rattle.convert.proofs.put_tga.Goals as goal
 

@@ -2,7 +2,6 @@
 use mathlib.Core.Path.{ap, ◌∙◌}
 use mathlib.Core.List.{List}
 use Prim.Native.Nat.{ℕ}
-use borrow.Author.Rules.{rules}
 use Rattle.convert.specs.Output.{laid}
 use Rattle.convert.proofs.Layouts.{header-bytes}
 use Rattle.convert.proofs.put_tga_header.Goals as goal

@@ -1,11 +1,7 @@
 -- `convert::put_words` meets its contract. The loop keeps that the first i bytes are laid. Assumes nothing.
-use mathlib.Core.Path.{◌≡◌, ap, ◌∙◌}
-use Prim.Native.Nat.{ℕ, ◌-◌, ◌*◌, ◌/◌, ◌%◌, ◌≤◌}
-use native.Mathlib.Omega.{arith}
+use Prim.Native.Nat.{◌-◌, ◌*◌, ◌/◌, ◌%◌, ◌≤◌}
 use lib.ListN.{get_or}
-use borrow.Author.Rules.{rules}
-use Rattle.paint.specs.Paint.{painted}
-use Rattle.paint.proofs.Laid.{Row, row-none, row_word}
+use Rattle.paint.proofs.Laid.{Row}
 use Rattle.files.specs.Fields.{byte_of}
 use Rattle.convert.proofs.put_words.Given as goal
 

@@ -1,6 +1,5 @@
 -- `convert::read_file` meets its contract. Assumes nothing.
 use mathlib.Core.Path.{sym, ap, ◌∙◌}
-use borrow.Author.Rules.{rules}
 use Rattle.files.specs.Reading.{reading_of}
 use Rattle.convert.proofs.Either.{as-ktx, as-pvr}
 use Rattle.convert.proofs.read_file.Goals as goal

@@ -1,6 +1,5 @@
 -- `files::fits_size` meets its contract. Assumes nothing.
 use mathlib.Core.Path.{refl}
-use borrow.Author.Rules.{rules}
 use Rattle.files.proofs.fits_size.Goals as goal
 
 pub returns-in-Bytes : goal.returns-in-Bytes

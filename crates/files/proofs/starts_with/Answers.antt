@@ -1,8 +1,6 @@
 -- `files::starts_with` meets its contract. The loop keeps that the first i bytes are alike; the measure is what is left of the bytes. Assumes nothing.
-use Prim.Native.Nat.{◌-◌}
 use native.Mathlib.Omega.{arith}
-use lib.ListN.{length}
-use Rattle.files.proofs.Starts.{Alike, too_short, alike-none, alike-more, alike-not, alike_end}
+use Rattle.files.proofs.Starts.{too_short, alike-none, alike-more, alike-not, alike_end}
 use Rattle.files.proofs.starts_with.Goals as goal
 
 pub returns-then-file-bytes : goal.returns-then-file-bytes

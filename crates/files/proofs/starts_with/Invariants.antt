@@ -1,8 +1,7 @@
 -- `files::starts_with` meets its contract. The loop keeps that the first i bytes are alike; the measure is what is left of the bytes. Assumes nothing.
 use Prim.Native.Nat.{◌-◌}
-use native.Mathlib.Omega.{arith}
 use lib.ListN.{length}
-use Rattle.files.proofs.Starts.{Alike, too_short, alike-none, alike-more, alike-not, alike_end}
+use Rattle.files.proofs.Starts.{Alike}
 use Rattle.files.proofs.starts_with.Given as goal
 
 abbrev pub invariant-loop-i : goal.invariant-loop-i

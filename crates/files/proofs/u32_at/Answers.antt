@@ -1,5 +1,4 @@
 -- `files::u32_at` meets its contract. Assumes nothing.
-use borrow.Author.Rules.{rules}
 use Rattle.files.proofs.Fields.{here}
 use Rattle.files.proofs.u32_at.Goals as goal
 

@@ -3,7 +3,6 @@ use mathlib.Core.Path.{◌≡◌}
 use Prim.Native.Nat.{ℕ, ◌+◌, ◌*◌}
 use native.Mathlib.Omega.{arith}
 use Rattle.files.proofs.Fields.{from_parts}
-use borrow.Author.Rules.{rules}
 use Rattle.files.proofs.u32_from.Goals as goal
 
 -- the four bytes, each by what it is

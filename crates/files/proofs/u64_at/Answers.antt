@@ -1,5 +1,4 @@
 -- `files::u64_at` meets its contract: the low four bytes, and the high ones. Assumes nothing.
-use borrow.Author.Rules.{rules}
 use Rattle.files.proofs.Fields.{here}
 use Rattle.files.proofs.u64_at.Goals as goal
 

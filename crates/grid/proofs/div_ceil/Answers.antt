@@ -1,5 +1,5 @@
 -- `grid::div_ceil` meets its contract: `Counts` has both cases. Assumes nothing.
-use Rattle.std.proofs.Common.{arith, rules}
+use Rattle.std.proofs.Common.{arith}
 use Rattle.grid.proofs.Counts.{exact, clipped, fits}
 use Rattle.grid.proofs.div_ceil.Goals as goal
 

@@ -1,5 +1,5 @@
 -- `grid::is_power_of_two` meets its contract: `Powers` has what the mask tells. Assumes nothing.
-use Rattle.std.proofs.Common.{sym, arith, pow_pos, rules, ne_eqb}
+use Rattle.std.proofs.Common.{sym, arith, pow_pos, ne_eqb}
 use Rattle.grid.specs.Grid.{log2}
 use Rattle.grid.proofs.Powers.{mask-test}
 use Rattle.grid.proofs.is_power_of_two.Goals as goal

@@ -1,5 +1,5 @@
 -- `grid::need_of` meets its contract: sides up to 65,536 have few enough blocks. Assumes nothing.
-use Rattle.std.proofs.Common.{mul-le-mul, arith, rules}
+use Rattle.std.proofs.Common.{mul-le-mul, arith}
 use Rattle.grid.proofs.need_of.Goals as goal
 
 pub overflow_mul-result : goal.overflow_mul-result

@@ -1,5 +1,5 @@
 -- `grid::num_blocks_x` meets its contract, by the depth. Assumes nothing.
-use Rattle.std.proofs.Common.{◌∙◌, rules}
+use Rattle.std.proofs.Common.{◌∙◌}
 use Rattle.grid.proofs.num_blocks_x.Goals as goal
 
 pub returns-then-is2bpp : goal.returns-then-is2bpp

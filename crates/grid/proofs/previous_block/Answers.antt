@@ -1,5 +1,5 @@
 -- `grid::previous_block` meets its contract: `Torus` has why the machine's wrap does no harm. Assumes nothing.
-use Rattle.std.proofs.Common.{◌≤◌, arith, pow_pos, rules}
+use Rattle.std.proofs.Common.{◌≤◌, arith, pow_pos}
 use Rattle.facts.proofs.Powers.{pow-le-cancel}
 use Rattle.grid.specs.Grid.{log2}
 use Rattle.grid.proofs.Torus.{wraps-back}

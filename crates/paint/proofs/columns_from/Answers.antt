@@ -1,5 +1,4 @@
 -- `paint::columns_from` meets its contract. Assumes nothing.
-use borrow.Author.Rules.{rules}
 use Rattle.paint.proofs.columns_from.Goals as goal
 
 pub returns : goal.returns

@@ -1,10 +1,7 @@
 -- `paint::copy_words` meets its contract. The loop keeps that the first i words of the row are laid. Assumes nothing.
-use mathlib.Core.Path.{◌≡◌, refl, ap, ◌∙◌}
-use Prim.Native.Nat.{ℕ, ◌+◌, ◌-◌, ◌≤◌}
-use native.Mathlib.Omega.{arith}
+use Prim.Native.Nat.{◌+◌, ◌-◌, ◌≤◌}
 use lib.ListN.{get_or}
-use Rattle.paint.proofs.Laid.{Row, row-none, row_word}
-use Rattle.paint.specs.Paint.{painted}
+use Rattle.paint.proofs.Laid.{Row}
 use Rattle.paint.proofs.copy_words.Given as goal
 
 abbrev pub invariant-loop-i : goal.invariant-loop-i

@@ -4,7 +4,6 @@ use mathlib.Core.List.{[], ◌∷◌}
 use mathlib.Core.Path.{◌≡◌, sym, ap, ◌∙◌}
 use Prim.Native.Nat.{ℕ}
 use lib.Dec.{eqb}
-use borrow.Author.Rules.{rules}
 use borrow.Author.Tests.{eq-eqb, ne_eqb}
 use Rattle.facts.specs.Checks.{check, first_of}
 use Rattle.facts.proofs.Order.{holds-here, holds_later, none_left}
@@ -45,7 +44,9 @@ past-faces k e =
     (holds_later _ _ _ (one faces.u32_at-3.ensures.0 faces.if-u32_at-ne1-3.false) e))
 
 pub returns-then-u32_at-eq0 : goal.returns-then-u32_at-eq0
-returns-then-u32_at-eq0 c = past-faces (goal.at.returns-then-u32_at-eq0 c).After-u32_at-4 (holds-here _ _ _ (eq-eqb _ 0 (sym c.u32_at-4.ensures.0 ∙ c.if-u32_at-eq0.true)))
+returns-then-u32_at-eq0 c =
+    past-faces (goal.at.returns-then-u32_at-eq0 c).After-u32_at-4 (holds-here _ _ _ (eq-eqb _ 0 (sym c.u32_at-4.ensures.0 ∙ c.if-u32_at-eq0.true)))
 
 pub returns : goal.returns
-returns c = past-faces (goal.at.returns c).After-u32_at-4 (holds_later _ _ _ (ne_eqb _ 0 (λ q. c.if-u32_at-eq0.false (c.u32_at-4.ensures.0 ∙ q))) none_left)
+returns c =
+    past-faces (goal.at.returns c).After-u32_at-4 (holds_later _ _ _ (ne_eqb _ 0 (λ q. c.if-u32_at-eq0.false (c.u32_at-4.ensures.0 ∙ q))) none_left)

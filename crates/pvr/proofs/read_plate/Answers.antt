@@ -1,5 +1,4 @@
 -- `pvr::read_plate` meets its contract. Assumes nothing.
-use borrow.Author.Rules.{rules}
 use Rattle.pvr.proofs.Shown.{number-shown, after-header, plate-shown}
 use Rattle.pvr.proofs.read_plate.Goals as goal
 

@@ -1,10 +1,7 @@
 -- `samples::lay_file` meets its contract. The loop keeps that the first k bytes are laid. Assumes nothing.
-use mathlib.Core.Path.{refl}
 use Prim.Native.Nat.{◌-◌, ◌≤◌}
-use native.Mathlib.Omega.{arith}
 use lib.ListN.{length}
-use borrow.Author.Rules.{rules}
-use Rattle.facts.proofs.Tab.{Filled, filled_none, filled_more, filled-end, filled-length}
+use Rattle.facts.proofs.Tab.{Filled}
 use Rattle.samples.specs.File.{file_byte}
 use Rattle.samples.proofs.lay_file.Given as goal
 

@@ -1,7 +1,6 @@
 -- `samples::set_byte` meets its contract: past the end there is nothing to set. Assumes nothing.
 use mathlib.Core.Path.{sym}
 use native.Mathlib.Omega.{arith}
-use borrow.Author.Rules.{rules}
 use Rattle.samples.proofs.Laws.{set_past}
 use Rattle.samples.proofs.set_byte.Goals as goal
 

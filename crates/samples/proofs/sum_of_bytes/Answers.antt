@@ -1,9 +1,7 @@
 -- `samples::sum_of_bytes` meets its contract. The loop keeps the checksum of the first i. Assumes nothing.
 use mathlib.Core.Path.{◌≡◌, refl, ap, ◌∙◌}
-use Prim.Native.Nat.{◌-◌, ◌≤◌}
 use native.Mathlib.Omega.{arith}
 use lib.ListN.{length}
-use borrow.Author.Rules.{rules}
 use Rattle.samples.specs.Sums.{checksum}
 use Rattle.samples.proofs.Laws.{sum_more}
 use Rattle.samples.proofs.sum_of_bytes.Goals as goal

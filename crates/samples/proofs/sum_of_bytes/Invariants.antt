@@ -1,11 +1,8 @@
 -- `samples::sum_of_bytes` meets its contract. The loop keeps the checksum of the first i. Assumes nothing.
-use mathlib.Core.Path.{◌≡◌, refl, ap, ◌∙◌}
+use mathlib.Core.Path.{◌≡◌}
 use Prim.Native.Nat.{◌-◌, ◌≤◌}
-use native.Mathlib.Omega.{arith}
 use lib.ListN.{length}
-use borrow.Author.Rules.{rules}
 use Rattle.samples.specs.Sums.{checksum}
-use Rattle.samples.proofs.Laws.{sum_more}
 use Rattle.samples.proofs.sum_of_bytes.Given as goal
 
 abbrev pub invariant-loop-i : goal.invariant-loop-i

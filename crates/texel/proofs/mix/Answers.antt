@@ -1,5 +1,4 @@
 -- `texel::mix` meets its contract, channel by channel: `Made` puts them together. Assumes nothing.
-use borrow.Author.Rules.{rules}
 use Rattle.texel.proofs.Made.{punched, whole}
 use Rattle.texel.proofs.mix.Goals as goal
 

@@ -2,7 +2,6 @@
 use mathlib.Core.Bool.{false}
 use Prim.Native.Nat.{◌*◌}
 use native.Mathlib.Omega.{arith}
-use borrow.Author.Rules.{rules}
 use Rattle.grid.specs.Grid.{half}
 use Rattle.texel.proofs.Blend.{scaled-by}
 use Rattle.texel.specs.Inner.{Low}

@@ -1,5 +1,4 @@
 -- `texel::texel_by` meets its contract: `Made` puts the parts together. Assumes nothing.
-use borrow.Author.Rules.{rules}
 use Rattle.texel.proofs.Across.{few-across, low-across}
 use Rattle.texel.proofs.Made.{texel}
 use Rattle.texel.proofs.texel_by.Goals as goal
@@ -14,12 +13,11 @@ scale-a-requires c =
     c.shares_across-row.ensures c.sum_across.ensures
 
 pub sum_across-requires-2 : goal.sum_across-requires-2
-sum_across-requires-2 c =
-    (
-      c.requires.low_weights.1.b,
-      few-across c.args.is2bpp c.args.px c.requires.wide_value.2.across
-          c.shares_across-row.ensures,
-    )
+sum_across-requires-2 c = (
+  c.requires.low_weights.1.b,
+  few-across c.args.is2bpp c.args.px c.requires.wide_value.2.across
+      c.shares_across-row.ensures,
+)
 
 pub scale-b-requires : goal.scale-b-requires
 scale-b-requires c =

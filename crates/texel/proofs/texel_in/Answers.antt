@@ -1,5 +1,4 @@
 -- `texel::texel_in` meets its contract: the first of one texel. Assumes nothing.
-use borrow.Author.Rules.{rules}
 use Rattle.texel.proofs.Across.{first-texel}
 use Rattle.texel.proofs.texel_in.Goals as goal
 

@@ -1,5 +1,4 @@
 -- `word::color_of` meets its contract. The branch's test decides whether the colour is opaque, and each arm is the definition's. Assumes nothing.
-use borrow.Author.Rules.{rules}
 use borrow.Author.Tests.{eq-eqb, ne_eqb}
 use Rattle.word.proofs.color_of.Goals as goal
 

@@ -1,5 +1,4 @@
 -- `word::get_texel_colors` meets its contract. The calls' results, put one into the other, are the definition's colours. Assumes nothing.
-use borrow.Author.Rules.{rules}
 use Rattle.word.proofs.get_texel_colors.Goals as goal
 
 pub returns : goal.returns

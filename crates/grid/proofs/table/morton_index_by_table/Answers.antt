@@ -1,6 +1,6 @@
 -- `grid::table::morton_index_by_table` meets its contract: `Spreading` has that this form is the address, which bounds every part.
 -- Assumes nothing.
-use Rattle.std.proofs.Common.{◌-◌, arith, pow_pos, rules}
+use Rattle.std.proofs.Common.{◌-◌, arith, pow_pos}
 use lib.Bits.{and_le_l}
 use Rattle.grid.specs.Grid.{log2}
 use Rattle.grid.proofs.Address.{address-small}

@@ -1,5 +1,5 @@
 -- `grid::table::spread` meets its contract: the two low bytes of v, spread by the table. Assumes nothing.
-use Rattle.std.proofs.Common.{◌/◌, ◌%◌, arith, rules}
+use Rattle.std.proofs.Common.{◌/◌, ◌%◌, arith}
 use Rattle.grid.proofs.Spreading.{spread-lt, spread-add, spread-mod}
 use Rattle.grid.proofs.table.spread.Goals as goal
 

@@ -1,5 +1,5 @@
 -- `grid::table::spread_byte` meets its contract: an entry of the table. Assumes nothing.
-use Rattle.std.proofs.Common.{arith, rules}
+use Rattle.std.proofs.Common.{arith}
 use Rattle.grid.proofs.Spreading.{spread-lt, entry}
 use Rattle.grid.proofs.table.spread_byte.Goals as goal
 

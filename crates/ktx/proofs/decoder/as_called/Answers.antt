@@ -1,6 +1,5 @@
 -- `ktx::decoder::as_called` meets its contract. Assumes nothing.
 use mathlib.Core.Path.{refl}
-use borrow.Author.Rules.{rules}
 use Rattle.ktx.proofs.decoder.as_called.Goals as goal
 
 pub returns-in-Refused : goal.returns-in-Refused

@@ -1,5 +1,4 @@
 -- `ktx::decoder::decode_ktx` meets its contract. Assumes nothing.
-use borrow.Author.Rules.{rules}
 use Rattle.ktx.proofs.Whole.{within, by-header, by-picture}
 use Rattle.ktx.proofs.decoder.decode_ktx.Goals as goal
 

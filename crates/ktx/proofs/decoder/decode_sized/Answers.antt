@@ -1,6 +1,5 @@
 -- `ktx::decoder::decode_sized` meets its contract: the sizes, the said size and the block call, one after the other. Assumes nothing.
 use mathlib.Core.Path.{ap, ◌∙◌}
-use borrow.Author.Rules.{rules}
 use Rattle.grid.specs.Words.{word_bytes}
 use Rattle.pvrtc.proofs.Accepted.{few-across, few-down}
 use Rattle.ktx.proofs.Sized.{not-large, by-sizes, by-other, by_call}

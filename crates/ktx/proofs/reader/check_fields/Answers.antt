@@ -1,7 +1,6 @@
 -- `ktx::reader::check_fields` meets its contract: the fields are asked in their order. Assumes nothing.
 use mathlib.Core.Bool.{not}
 use mathlib.Core.Path.{sym, ap, ◌∙◌}
-use borrow.Author.Rules.{rules}
 use borrow.Author.Tests.{lt-ltb, le-ltb, eq-eqb, ne_eqb}
 use Rattle.facts.proofs.Order.{holds-here, holds_later, none_left}
 use Rattle.ktx.proofs.reader.check_fields.Goals as goal

@@ -1,6 +1,5 @@
 -- `ktx::reader::header_of` meets its contract. Assumes nothing.
 use mathlib.Core.Path.{refl}
-use borrow.Author.Rules.{rules}
 use Rattle.ktx.proofs.reader.header_of.Goals as goal
 
 pub returns-then-s : goal.returns-then-s

@@ -3,7 +3,6 @@ use mathlib.Core.Bool.{not, ◌||◌}
 use mathlib.Core.Path.{◌≡◌, sym, ◌∙◌}
 use Prim.Native.Nat.{ℕ}
 use lib.Dec.{eqb}
-use borrow.Author.Rules.{rules}
 use borrow.Author.Tests.{eq-eqb, ne_eqb}
 use Rattle.ktx.specs.Header.{not_one_plate}
 use Rattle.ktx.proofs.reader.is_not_one_plate.Goals as goal

@@ -1,7 +1,6 @@
 -- `ktx::reader::is_pvrtc` meets its contract. Assumes nothing.
 use mathlib.Core.Bool.{Bool, true, false, ◌||◌}
 use mathlib.Core.Path.{◌≡◌, sym, ◌∙◌}
-use borrow.Author.Rules.{rules}
 use Rattle.ktx.proofs.reader.is_pvrtc.Goals as goal
 
 -- the first test holds, or the second decides

@@ -1,5 +1,4 @@
 -- `ktx::reader::read_fields` meets its contract. Assumes nothing.
-use borrow.Author.Rules.{rules}
 use Rattle.ktx.proofs.Answers.{fields-refused, fields_read}
 use Rattle.ktx.proofs.reader.read_fields.Goals as goal
 

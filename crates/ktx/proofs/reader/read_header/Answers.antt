@@ -1,5 +1,4 @@
 -- `ktx::reader::read_header` meets its contract. Assumes nothing.
-use borrow.Author.Rules.{rules}
 use Rattle.ktx.proofs.Answers.{by-fields, by-stored}
 use Rattle.ktx.proofs.reader.read_header.Goals as goal
 

@@ -1,5 +1,4 @@
 -- `ktx::reader::read_plate` meets its contract. Assumes nothing.
-use borrow.Author.Rules.{rules}
 use Rattle.ktx.proofs.Answers.{number-shown, plate-shown}
 use Rattle.ktx.proofs.reader.read_plate.Goals as goal
 

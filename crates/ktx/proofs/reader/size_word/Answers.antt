@@ -1,6 +1,5 @@
 -- `ktx::reader::size_word` meets its contract. Assumes nothing.
 use mathlib.Core.Path.{ap, ◌∙◌}
-use borrow.Author.Rules.{rules}
 use Rattle.files.specs.Fields.{u32_at}
 use Rattle.ktx.proofs.reader.size_word.Goals as goal
 

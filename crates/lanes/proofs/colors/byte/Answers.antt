@@ -1,7 +1,6 @@
 -- `lanes::colors::byte` meets its contract: a byte is below 256. Assumes nothing.
 use mathlib.Core.Path.{refl}
 use native.Mathlib.Omega.{arith}
-use borrow.Author.Rules.{rules}
 use Rattle.lanes.proofs.colors.byte.Goals as goal
 
 pub overflow_cast-result : goal.overflow_cast-result

@@ -2,7 +2,6 @@
 use Prim.Native.Nat.{◌*◌, ◌/◌}
 use native.Mathlib.Omega.{arith}
 use lib.Bits.{bit_and, and_le_r}
-use borrow.Author.Rules.{rules}
 use Rattle.lanes.proofs.Fields.{in-lanes, spread-fits}
 use Rattle.lanes.proofs.colors.in_lanes.Goals as goal
 

@@ -3,7 +3,6 @@ use mathlib.Core.Path.{ap₂, ◌∙◌}
 use mathlib.Core.Bool.{cond}
 use Prim.Native.Nat.{◌+◌, ◌*◌, ◌/◌, ◌%◌}
 use native.Mathlib.Omega.{arith}
-use borrow.Author.Rules.{rules}
 use Rattle.word.specs.Word.{opaque}
 use Rattle.lanes.proofs.Fields.{color-lanes, low-fields, opaque-a, clear-a}
 use Rattle.lanes.proofs.colors.lane_a.Goals as goal

@@ -3,7 +3,6 @@ use mathlib.Core.Path.{◌≡◌, ap, ap₂, ◌∙◌}
 use mathlib.Core.Bool.{cond}
 use Prim.Native.Nat.{ℕ, ◌+◌, ◌*◌, ◌/◌, ◌%◌}
 use native.Mathlib.Omega.{arith}
-use borrow.Author.Rules.{rules}
 use Rattle.word.specs.Word.{opaque, color_of}
 use Rattle.lanes.specs.Lanes.{color_lanes}
 use Rattle.lanes.proofs.Fields.{color-lanes, low-fields, opaque-b, clear-b}

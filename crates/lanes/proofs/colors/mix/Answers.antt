@@ -1,7 +1,6 @@
 -- `lanes::colors::mix` meets its contract: the product stays within 64 bits, and what is kept within 32. Assumes nothing.
 use Prim.Native.Nat.{◌+◌, ◌*◌, ◌/◌, ◌-◌, ◌<◌}
 use native.Mathlib.Omega.{arith}
-use borrow.Author.Rules.{rules}
 use Rattle.lanes.specs.Lanes.{bias, mixed_lanes}
 use Rattle.lanes.proofs.Lane.{product-fits, one_word}
 use Rattle.lanes.proofs.colors.mix.Goals as goal

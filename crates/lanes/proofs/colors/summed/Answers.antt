@@ -1,5 +1,4 @@
 -- `lanes::colors::summed` meets its contract: its rows are the words by their shares. Assumes nothing.
-use borrow.Author.Rules.{rules}
 use Rattle.lanes.proofs.Reading.{summed-is}
 use Rattle.lanes.proofs.colors.summed.Goals as goal
 

@@ -3,7 +3,6 @@ use mathlib.Core.Path.{refl}
 use Prim.Native.Nat.{◌/◌}
 use native.Mathlib.Omega.{arith}
 use lib.Bits.{and_le_r}
-use borrow.Author.Rules.{rules}
 use Rattle.lanes.proofs.colors.widen.Goals as goal
 
 pub overflow_add-result : goal.overflow_add-result

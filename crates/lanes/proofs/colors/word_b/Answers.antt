@@ -1,5 +1,4 @@
 -- `lanes::colors::word_b` meets its contract: the bytes of the colour are the word's, and a lane holds at most 31. Assumes nothing.
-use borrow.Author.Rules.{rules}
 use Rattle.lanes.proofs.Reading.{b-is}
 use Rattle.lanes.proofs.colors.word_b.Goals as goal
 

@@ -1,6 +1,5 @@
 -- `lanes::filling::adjust` meets its contract, where the bit is set and where it is not. Assumes nothing.
 use native.Mathlib.Omega.{arith}
-use borrow.Author.Rules.{rules}
 use borrow.Author.Tests.{eq-eqb, ne_eqb}
 use Rattle.lanes.proofs.filling.adjust.Goals as goal
 

@@ -2,7 +2,6 @@
 use mathlib.Core.Path.{refl}
 use Prim.Native.Nat.{◌+◌, ◌*◌, ◌/◌, ◌<◌}
 use native.Mathlib.Omega.{arith}
-use borrow.Author.Rules.{rules}
 use lib.Bits.{and_le_r}
 use Rattle.lanes.specs.Block2bpp.{beside_row, filled_row}
 use Rattle.lanes.proofs.Stored.{beside-le, sum_fits}

@@ -1,7 +1,6 @@
 -- `lanes::filling::fill_rows` meets its contract, row by row. Assumes nothing.
 use Prim.Native.Nat.{ℕ, ◌≤◌, ◌<◌}
 use native.Mathlib.Omega.{arith}
-use borrow.Author.Rules.{rules}
 use lib.ListN.{get_or}
 use Rattle.lanes.specs.Block2bpp.{LowRow, FewTimes}
 use Rattle.lanes.proofs.Stored.{filled-are}
@@ -23,13 +22,15 @@ fill_row-requires c =
 pub fill_row-requires-2 : goal.fill_row-requires-2
 fill_row-requires-2 c =
     let p = c.requires in
-    let asks = asked (goal.at.fill_row-requires-2 c).Start 1 (omega arith) (omega (arith, p.3.mode)) (p.1.low 0 (omega arith)) (p.1.low 2 (omega arith)) in
+    let asks = asked (goal.at.fill_row-requires-2 c).Start 1 (omega arith) (omega (arith, p.3.mode)) (p.1.low 0 (omega arith))
+    (p.1.low 2 (omega arith)) in
     record { few_times = asks.0; low_row = asks.1 }
 
 pub fill_row-requires-3 : goal.fill_row-requires-3
 fill_row-requires-3 c =
     let p = c.requires in
-    let asks = asked (goal.at.fill_row-requires-3 c).Start 2 (omega arith) (omega (arith, p.3.mode)) (p.1.low 1 (omega arith)) (p.1.low 3 (omega arith)) in
+    let asks = asked (goal.at.fill_row-requires-3 c).Start 2 (omega arith) (omega (arith, p.3.mode)) (p.1.low 1 (omega arith))
+    (p.1.low 3 (omega arith)) in
     record { few_times = asks.0; low_row = asks.1 }
 
 pub fill_row-requires-4 : goal.fill_row-requires-4

@@ -1,6 +1,5 @@
 -- `lanes::filling::first_row` meets its contract: `Stored` has it for each of the 256 bytes. Assumes nothing.
 use mathlib.Core.Path.{ap, ◌∙◌}
-use borrow.Author.Rules.{rules}
 use lib.Dec.{eqb}
 use Rattle.lanes.proofs.Stored.{first_form, first-is}
 use Rattle.lanes.proofs.filling.first_row.Goals as goal

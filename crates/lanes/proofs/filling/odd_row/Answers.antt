@@ -2,7 +2,6 @@
 use mathlib.Core.Path.{ap₂, ◌∙◌}
 use mathlib.Core.Bool.{cond}
 use Prim.Native.Nat.{ℕ, ◌*◌}
-use borrow.Author.Rules.{rules}
 use lib.Dec.{eqb}
 use Rattle.lanes.proofs.Stored.{odd_is}
 use Rattle.lanes.proofs.filling.odd_row.Goals as goal

@@ -1,7 +1,6 @@
 -- `lanes::filling::read_rows` meets its contract, byte by byte. Assumes nothing.
 use Prim.Native.Nat.{ℕ, ◌<◌}
 use native.Mathlib.Omega.{arith}
-use borrow.Author.Rules.{rules}
 use lib.ListN.{get_or}
 use Rattle.lanes.specs.Column.{word_at}
 use Rattle.lanes.proofs.Stored.{row-0, row-1, row-2, row-3, rows_are}

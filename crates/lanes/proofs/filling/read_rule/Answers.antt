@@ -1,6 +1,5 @@
 -- `lanes::filling::read_rule` meets its contract: the bits that say how it is filled are the word's. Assumes nothing.
 use native.Mathlib.Omega.{arith}
-use borrow.Author.Rules.{rules}
 use Prim.Native.Nat.{◌+◌, ◌-◌, ◌*◌, ◌/◌, ◌%◌, ◌≤◌}
 use Rattle.lanes.proofs.Stored.{two-bits, rule-is}
 use Rattle.lanes.proofs.filling.read_rule.Goals as goal

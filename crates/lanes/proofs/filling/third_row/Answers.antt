@@ -1,6 +1,5 @@
 -- `lanes::filling::third_row` meets its contract: `Stored` has it for each of the 256 bytes. Assumes nothing.
 use mathlib.Core.Path.{ap, ◌∙◌}
-use borrow.Author.Rules.{rules}
 use lib.Dec.{eqb}
 use Prim.Native.Nat.{ℕ, ◌+◌, ◌-◌, ◌*◌, ◌/◌, ◌%◌}
 use Rattle.lanes.proofs.Stored.{third_form, third-is}

@@ -1,6 +1,5 @@
 -- `lanes::filling::upper_edge` meets its contract: one of the word's rows. Assumes nothing.
 use native.Mathlib.Omega.{arith}
-use borrow.Author.Rules.{rules}
 use Rattle.lanes.proofs.Stored.{row-0}
 use Rattle.lanes.proofs.filling.upper_edge.Goals as goal
 

@@ -1,7 +1,6 @@
 -- `lanes::places::row_addresses` meets its contract: each row of the three is one of the grid. Assumes nothing.
 use mathlib.Core.Path.{◌≡◌, sym}
 use Prim.Native.Nat.{ℕ}
-use borrow.Author.Rules.{rules}
 use Rattle.grid.proofs.Torus.{beside-own}
 use Rattle.grid.specs.Grid.{beside, spread_table, Placed}
 use Rattle.lanes.proofs.Placing.{addresses-are, placed_row}
@@ -20,7 +19,8 @@ morton_index_by_table-requires c =
 
 pub morton_index_by_table-requires-2 : goal.morton_index_by_table-requires-2
 morton_index_by_table-requires-2 c =
-    let asks = asked (goal.at.morton_index_by_table-requires-2 c).After-spread_table-table 1 (sym (beside-own c.args.g.down c.args.by c.requires.1)) in
+    let asks = asked (goal.at.morton_index_by_table-requires-2 c).After-spread_table-table 1 (sym (beside-own c.args.g.down c.args.by c.requires.1))
+    in
     record { table_value = asks.0; placed = asks.1 }
 
 pub morton_index_by_table-requires-3 : goal.morton_index_by_table-requires-3

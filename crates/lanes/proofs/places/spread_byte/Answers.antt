@@ -1,7 +1,6 @@
 -- `lanes::places::spread_byte` meets its contract: the masks spread each of the 256 bytes. Assumes nothing.
 use Prim.Native.Nat.{◌*◌}
 use native.Mathlib.Omega.{arith}
-use borrow.Author.Rules.{rules}
 use lib.Bits.{bit_or, and_le_r}
 use Rattle.lanes.proofs.Placing.{once, masks-spread}
 use Rattle.lanes.proofs.places.spread_byte.Goals as goal

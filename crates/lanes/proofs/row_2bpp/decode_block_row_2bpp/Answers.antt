@@ -1,6 +1,6 @@
 -- `lanes::row_2bpp::decode_block_row_2bpp` meets its contract. The loop keeps the window before block bx and the blocks laid so far. Assumes nothing.
 use mathlib.Core.Path.{refl}
-use Prim.Native.Nat.{◌*◌, ◌-◌, ◌≤◌, ◌<◌}
+use Prim.Native.Nat.{◌*◌, ◌<◌}
 use native.Mathlib.Omega.{arith}
 use lib.ListN.{length}
 use Rattle.grid.proofs.Words.{exact, some-across}
@@ -8,7 +8,7 @@ use Rattle.paint.proofs.Sheets.{fits_more, no_blocks, all_blocks}
 use Rattle.paint.specs.Sheet.{Fits, largest}
 use Rattle.lanes.specs.Block2bpp.{in_block_2bpp}
 use Rattle.lanes.proofs.Placing.{RowAt, first-column, last-column, placed-column, part-seen, in-column, covers}
-use Rattle.lanes.proofs.Sliding.{Window2bpp, slide, column-seen, weights-seen, rule-of, texels-2bpp, row_texel, RowSoFar}
+use Rattle.lanes.proofs.Sliding.{slide, column-seen, weights-seen, rule-of, texels-2bpp, row_texel}
 use Rattle.lanes.proofs.Sliding.{part-fits, block-laid}
 use Rattle.lanes.proofs.row_2bpp.decode_block_row_2bpp.Goals as goal
 use Rattle.lanes.proofs.row_2bpp.decode_block_row_2bpp.Goals.{After-row_addresses-addresses, In-loop-bx}
@@ -35,16 +35,22 @@ pub overflow_sub-g : goal.overflow_sub-g
 overflow_sub-g c = some-across (the_row (goal.at.overflow_sub-g c).After-row_addresses-addresses).words
 
 pub part_across-last-requires : goal.part_across-last-requires
-part_across-last-requires c = let r = the_row (goal.at.part_across-last-requires c).After-row_addresses-addresses in placed-column r 0 0 (last-column r.words)
+part_across-last-requires c =
+    let r = the_row (goal.at.part_across-last-requires c).After-row_addresses-addresses in placed-column r 0 0 (last-column r.words)
 
 pub column_at-left-requires : goal.column_at-left-requires
-column_at-left-requires c = let r = the_row (goal.at.column_at-left-requires c).After-row_addresses-addresses in in-column r (part-seen r 0 0 (last-column r.words) c.part_across-last.ensures)
+column_at-left-requires c =
+    let r = the_row (goal.at.column_at-left-requires c).After-row_addresses-addresses in
+    in-column r (part-seen r 0 0 (last-column r.words) c.part_across-last.ensures)
 
 pub weights_at-left_weights-requires : goal.weights_at-left_weights-requires
-weights_at-left_weights-requires c = let r = the_row (goal.at.weights_at-left_weights-requires c).After-row_addresses-addresses in in-column r (part-seen r 0 0 (last-column r.words) c.part_across-last.ensures)
+weights_at-left_weights-requires c =
+    let r = the_row (goal.at.weights_at-left_weights-requires c).After-row_addresses-addresses in
+    in-column r (part-seen r 0 0 (last-column r.words) c.part_across-last.ensures)
 
 pub part_across-part-requires : goal.part_across-part-requires
-part_across-part-requires c = let r = the_row (goal.at.part_across-part-requires c).After-row_addresses-addresses in placed-column r 0 1 (first-column r.words)
+part_across-part-requires c =
+    let r = the_row (goal.at.part_across-part-requires c).After-row_addresses-addresses in placed-column r 0 1 (first-column r.words)
 
 pub column_at-own-requires : goal.column_at-own-requires
 column_at-own-requires c =
@@ -81,7 +87,8 @@ pub next_column-requires : goal.next_column-requires
 next_column-requires c = in-grid (goal.at.next_column-requires c).In-loop-bx
 
 pub part_across-next-requires : goal.part_across-next-requires
-part_across-next-requires c = placed-column (the_row (goal.at.part_across-next-requires c).After-row_addresses-addresses) c.loop-bx.bx 2 c.next_column.ensures
+part_across-next-requires c =
+    placed-column (the_row (goal.at.part_across-next-requires c).After-row_addresses-addresses) c.loop-bx.bx 2 c.next_column.ensures
 
 pub column_at-right-requires : goal.column_at-right-requires
 column_at-right-requires c =
@@ -110,7 +117,11 @@ columns_from-sheet-requires c = starts (goal.at.columns_from-sheet-requires c).I
 pub lay_block_2bpp-requires : goal.lay_block_2bpp-requires
 lay_block_2bpp-requires c =
     let window = c.loop-bx.invariant.1 in
-    let part = part-fits c.requires.0 8 c.loop-bx.bx (starts (goal.at.lay_block_2bpp-requires c).In-loop-bx).1 c.columns_from-sheet.ensures in record { small_column = (window.left.good, window.own.good, c.column_at-right.ensures.1); fits = (rw c.loop-bx.invariant.2.len part.0, part.1, part.2) }
+    let part = part-fits c.requires.0 8 c.loop-bx.bx (starts (goal.at.lay_block_2bpp-requires c).In-loop-bx).1 c.columns_from-sheet.ensures in
+    record {
+      small_column = (window.left.good, window.own.good, c.column_at-right.ensures.1);
+      fits = (rw c.loop-bx.invariant.2.len part.0, part.1, part.2);
+    }
 
 pub overflow_step-bx : goal.overflow_step-bx
 overflow_step-bx c = omega (arith, starts (goal.at.overflow_step-bx c).In-loop-bx)

@@ -1,11 +1,10 @@
 -- `lanes::row_2bpp::lay_block_2bpp` meets its contract. The loop keeps that the rows before row j are laid. Assumes nothing.
 use mathlib.Core.Path.{◌≡◌, refl}
-use Prim.Native.Nat.{◌+◌, ◌-◌, ◌*◌, ◌≤◌, ◌<◌}
+use Prim.Native.Nat.{◌+◌, ◌*◌, ◌≤◌, ◌<◌}
 use native.Mathlib.Omega.{arith}
 use lib.ListN.{length}
-use Rattle.paint.proofs.Laid.{Part, part_none, row-part}
+use Rattle.paint.proofs.Laid.{part_none, row-part}
 use Rattle.paint.proofs.Sheets.{row-in-room}
-use Rattle.lanes.specs.Block2bpp.{in_block_2bpp}
 use Rattle.lanes.proofs.Laying.{row_small}
 use Rattle.lanes.proofs.row_2bpp.lay_block_2bpp.Goals as goal
 use Rattle.lanes.proofs.row_2bpp.lay_block_2bpp.Goals.{In-loop-j}
@@ -70,7 +69,11 @@ bounds-weights-j c = (row_in (goal.at.bounds-weights-j c).In-loop-j).0
 
 pub lay_row_2bpp-requires : goal.lay_row_2bpp-requires
 lay_row_2bpp-requires c =
-    let p = c.requires.small_column in record { small_sums = row_small p.0 p.1 p.2 (row_in (goal.at.lay_row_2bpp-requires c).In-loop-j).0; columns_bound = (c.requires.fits.1, rw c.loop-j.invariant.1.len (omega (arith, row_in (goal.at.lay_row_2bpp-requires c).In-loop-j))) }
+    let p = c.requires.small_column in
+    record {
+      small_sums = row_small p.0 p.1 p.2 (row_in (goal.at.lay_row_2bpp-requires c).In-loop-j).0;
+      columns_bound = (c.requires.fits.1, rw c.loop-j.invariant.1.len (omega (arith, row_in (goal.at.lay_row_2bpp-requires c).In-loop-j)));
+    }
 
 pub overflow_step-j : goal.overflow_step-j
 overflow_step-j c = omega (arith, c.loop-j-test.true)
@@ -80,7 +83,10 @@ loop-j-smaller c = omega (arith, c.loop-j-test.true)
 
 pub loop-j-preserved : goal.loop-j-preserved
 loop-j-preserved c =
-    (omega (arith, c.loop-j-test.true), row-part c.loop-j.invariant.1 c.requires.fits.0.apart (row_in (goal.at.loop-j-preserved c).In-loop-j).1 refl c.lay_row_2bpp.ensures)
+    (
+      omega (arith, c.loop-j-test.true),
+      row-part c.loop-j.invariant.1 c.requires.fits.0.apart (row_in (goal.at.loop-j-preserved c).In-loop-j).1 refl c.lay_row_2bpp.ensures,
+    )
 
 pub shape_of-image : goal.shape_of-image
 shape_of-image c = c.loop-j.invariant.1.len

@@ -1,6 +1,5 @@
 -- `lanes::row_2bpp::texel_2bpp` meets its contract: a weight of four bits is small enough for the product. Assumes nothing.
 use mathlib.Core.Path.{ap₂, ◌∙◌}
-use borrow.Author.Rules.{rules}
 use Prim.Native.Nat.{ℕ, ◌%◌}
 use Rattle.lanes.specs.Lanes.{bytes, mixed_lanes, texel_lanes}
 use Rattle.lanes.proofs.row_2bpp.texel_2bpp.Goals as goal

@@ -1,6 +1,6 @@
 -- `lanes::row_4bpp::decode_block_row_4bpp` meets its contract. The loop keeps the window before block bx and the blocks laid so far. Assumes nothing.
 use mathlib.Core.Path.{refl}
-use Prim.Native.Nat.{◌*◌, ◌-◌, ◌≤◌, ◌<◌}
+use Prim.Native.Nat.{◌*◌, ◌<◌}
 use native.Mathlib.Omega.{arith}
 use lib.ListN.{length}
 use Rattle.grid.proofs.Words.{exact, some-across}
@@ -8,7 +8,7 @@ use Rattle.paint.proofs.Sheets.{fits_more, no_blocks, all_blocks}
 use Rattle.paint.specs.Sheet.{Fits, largest}
 use Rattle.lanes.specs.Block4bpp.{in_block_4bpp}
 use Rattle.lanes.proofs.Placing.{RowAt, first-column, last-column, placed-column, part-seen, in-column, covers}
-use Rattle.lanes.proofs.Sliding.{Window4bpp, slide, column-seen, codes-seen, texels-4bpp, row_texel, RowSoFar, part-fits, block-laid}
+use Rattle.lanes.proofs.Sliding.{slide, column-seen, codes-seen, texels-4bpp, row_texel, part-fits, block-laid}
 use Rattle.lanes.proofs.row_4bpp.decode_block_row_4bpp.Goals as goal
 use Rattle.lanes.proofs.row_4bpp.decode_block_row_4bpp.Goals.{After-row_addresses-addresses, In-loop-bx}
 
@@ -34,13 +34,17 @@ pub overflow_sub-g : goal.overflow_sub-g
 overflow_sub-g c = some-across (the_row (goal.at.overflow_sub-g c).After-row_addresses-addresses).words
 
 pub part_across-last-requires : goal.part_across-last-requires
-part_across-last-requires c = let r = the_row (goal.at.part_across-last-requires c).After-row_addresses-addresses in placed-column r 0 0 (last-column r.words)
+part_across-last-requires c =
+    let r = the_row (goal.at.part_across-last-requires c).After-row_addresses-addresses in placed-column r 0 0 (last-column r.words)
 
 pub column_at-left-requires : goal.column_at-left-requires
-column_at-left-requires c = let r = the_row (goal.at.column_at-left-requires c).After-row_addresses-addresses in in-column r (part-seen r 0 0 (last-column r.words) c.part_across-last.ensures)
+column_at-left-requires c =
+    let r = the_row (goal.at.column_at-left-requires c).After-row_addresses-addresses in
+    in-column r (part-seen r 0 0 (last-column r.words) c.part_across-last.ensures)
 
 pub part_across-first-requires : goal.part_across-first-requires
-part_across-first-requires c = let r = the_row (goal.at.part_across-first-requires c).After-row_addresses-addresses in placed-column r 0 1 (first-column r.words)
+part_across-first-requires c =
+    let r = the_row (goal.at.part_across-first-requires c).After-row_addresses-addresses in placed-column r 0 1 (first-column r.words)
 
 pub column_at-own-requires : goal.column_at-own-requires
 column_at-own-requires c =
@@ -74,7 +78,8 @@ pub next_column-requires : goal.next_column-requires
 next_column-requires c = in-grid (goal.at.next_column-requires c).In-loop-bx
 
 pub part_across-part-requires : goal.part_across-part-requires
-part_across-part-requires c = placed-column (the_row (goal.at.part_across-part-requires c).After-row_addresses-addresses) c.loop-bx.bx 2 c.next_column.ensures
+part_across-part-requires c =
+    placed-column (the_row (goal.at.part_across-part-requires c).After-row_addresses-addresses) c.loop-bx.bx 2 c.next_column.ensures
 
 pub column_at-right-requires : goal.column_at-right-requires
 column_at-right-requires c =
@@ -83,8 +88,8 @@ column_at-right-requires c =
 
 pub codes_at-next-requires : goal.codes_at-next-requires
 codes_at-next-requires c =
-    let r = the_row (goal.at.codes_at-next-requires c).After-row_addresses-addresses in
-    in-column r (part-seen r c.loop-bx.bx 2 c.next_column.ensures c.part_across-part.ensures)
+    let row = the_row (goal.at.codes_at-next-requires c).After-row_addresses-addresses in
+    in-column row (part-seen row c.loop-bx.bx 2 c.next_column.ensures c.part_across-part.ensures)
 
 pub overflow_mul-bx : goal.overflow_mul-bx
 overflow_mul-bx c = omega (arith, starts (goal.at.overflow_mul-bx c).In-loop-bx)
@@ -95,7 +100,12 @@ columns_from-sheet-requires c = starts (goal.at.columns_from-sheet-requires c).I
 pub lay_block_4bpp-requires : goal.lay_block_4bpp-requires
 lay_block_4bpp-requires c =
     let window = c.loop-bx.invariant.1 in
-    let part = part-fits c.requires.0 4 c.loop-bx.bx (starts (goal.at.lay_block_4bpp-requires c).In-loop-bx).1 c.columns_from-sheet.ensures in record { weights_value = (refl, refl); small_column = (window.left.good, window.own.good, c.column_at-right.ensures.1, window.codes.good); fits = (rw c.loop-bx.invariant.2.len part.0, part.1, part.2) }
+    let part = part-fits c.requires.0 4 c.loop-bx.bx (starts (goal.at.lay_block_4bpp-requires c).In-loop-bx).1 c.columns_from-sheet.ensures in
+    record {
+      weights_value = (refl, refl);
+      small_column = (window.left.good, window.own.good, c.column_at-right.ensures.1, window.codes.good);
+      fits = (rw c.loop-bx.invariant.2.len part.0, part.1, part.2);
+    }
 
 pub overflow_step-bx : goal.overflow_step-bx
 overflow_step-bx c = omega (arith, starts (goal.at.overflow_step-bx c).In-loop-bx)

@@ -1,11 +1,10 @@
 -- `lanes::row_4bpp::lay_block_4bpp` meets its contract. The loop keeps that the rows before row j are laid. Assumes nothing.
 use mathlib.Core.Path.{◌≡◌, refl}
-use Prim.Native.Nat.{◌+◌, ◌-◌, ◌*◌, ◌≤◌, ◌<◌}
+use Prim.Native.Nat.{◌+◌, ◌*◌, ◌≤◌, ◌<◌}
 use native.Mathlib.Omega.{arith}
 use lib.ListN.{length}
-use Rattle.paint.proofs.Laid.{Part, part_none, row-part}
+use Rattle.paint.proofs.Laid.{part_none, row-part}
 use Rattle.paint.proofs.Sheets.{row-in-room}
-use Rattle.lanes.specs.Block4bpp.{in_block_4bpp}
 use Rattle.lanes.proofs.Laying.{row_small}
 use Rattle.lanes.proofs.row_4bpp.lay_block_4bpp.Goals as goal
 use Rattle.lanes.proofs.row_4bpp.lay_block_4bpp.Goals.{In-loop-j, Start}
@@ -71,7 +70,12 @@ row_codes-requires c = (row_in (goal.at.row_codes-requires c).In-loop-j).0
 
 pub lay_row_4bpp-requires : goal.lay_row_4bpp-requires
 lay_row_4bpp-requires c =
-    let p = c.requires in record { weights_value = p.weights_value; small_sums = (row_small p.small_column.0 p.small_column.1 p.small_column.2 (row_in (goal.at.lay_row_4bpp-requires c).In-loop-j).0, rw c.row_codes.ensures p.small_column.3); columns_bound = (p.fits.1, rw c.loop-j.invariant.1.len (omega (arith, row_in (goal.at.lay_row_4bpp-requires c).In-loop-j))) }
+    let p = c.requires in
+    record {
+      weights_value = p.weights_value;
+      small_sums = (row_small p.small_column.0 p.small_column.1 p.small_column.2 (row_in (goal.at.lay_row_4bpp-requires c).In-loop-j).0, rw c.row_codes.ensures p.small_column.3);
+      columns_bound = (p.fits.1, rw c.loop-j.invariant.1.len (omega (arith, row_in (goal.at.lay_row_4bpp-requires c).In-loop-j)));
+    }
 
 pub overflow_step-j : goal.overflow_step-j
 overflow_step-j c = omega (arith, c.loop-j-test.true)
@@ -82,7 +86,10 @@ loop-j-smaller c = omega (arith, c.loop-j-test.true)
 pub loop-j-preserved : goal.loop-j-preserved
 loop-j-preserved c =
     let row = rw c.row_codes.ensures at c.lay_row_4bpp.ensures in
-    (omega (arith, c.loop-j-test.true), row-part c.loop-j.invariant.1 c.requires.fits.0.apart (row_in (goal.at.loop-j-preserved c).In-loop-j).1 refl row)
+    (
+      omega (arith, c.loop-j-test.true),
+      row-part c.loop-j.invariant.1 c.requires.fits.0.apart (row_in (goal.at.loop-j-preserved c).In-loop-j).1 refl row,
+    )
 
 pub shape_of-image : goal.shape_of-image
 shape_of-image c = c.loop-j.invariant.1.len

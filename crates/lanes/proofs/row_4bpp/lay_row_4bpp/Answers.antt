@@ -1,9 +1,7 @@
 -- `lanes::row_4bpp::lay_row_4bpp` meets its contract. The loop keeps the two sums of place i, and that the words before it are laid. Assumes nothing.
-use Prim.Native.Nat.{◌-◌}
 use native.Mathlib.Omega.{arith}
-use borrow.Author.Rules.{rules}
 use Rattle.lanes.specs.Block4bpp.{in_row_4bpp}
-use Rattle.lanes.proofs.Laying.{RowLaid, row-start, small-enough, asked-a, asked-b, word-laid, word_cut, row-end}
+use Rattle.lanes.proofs.Laying.{row-start, small-enough, asked-a, asked-b, word-laid, word_cut, row-end}
 use Rattle.lanes.proofs.Texel4bpp.{row-texel}
 use Rattle.lanes.proofs.row_4bpp.lay_row_4bpp.Goals as goal
 use Rattle.lanes.proofs.row_4bpp.lay_row_4bpp.Goals.{then-i-columns, else-i-columns}
@@ -25,7 +23,8 @@ code_place-place-requires c = c.requires.small_sums.1
 pub texel_4bpp-texel-requires : goal.texel_4bpp-texel-requires
 texel_4bpp-texel-requires c =
     let p = c.requires in
-    let fit = small-enough c.loop-i.invariant p.small_sums.0 (omega arith) in record { weights_value = p.weights_value; a_bound = (fit.0, fit.1, c.code_place-place.ensures.1) }
+    let fit = small-enough c.loop-i.invariant p.small_sums.0 (omega arith) in
+    record { weights_value = p.weights_value; a_bound = (fit.0, fit.1, c.code_place-place.ensures.1) }
 
 pub overflow_add-image : goal.overflow_add-image
 overflow_add-image c = omega (arith, c.if-i-columns.true, c.requires.columns_bound.1)

@@ -1,11 +1,7 @@
 -- `lanes::row_4bpp::lay_row_4bpp` meets its contract. The loop keeps the two sums of place i, and that the words before it are laid. Assumes nothing.
-use mathlib.Core.Logic.{⊎_elim}
 use Prim.Native.Nat.{◌-◌}
-use native.Mathlib.Omega.{arith}
-use borrow.Author.Rules.{rules}
 use Rattle.lanes.specs.Block4bpp.{in_row_4bpp}
-use Rattle.lanes.proofs.Laying.{RowLaid, row-start, small-enough, asked-a, asked-b, word-laid, word_cut, row-end}
-use Rattle.lanes.proofs.Texel4bpp.{row-texel}
+use Rattle.lanes.proofs.Laying.{RowLaid}
 use Rattle.lanes.proofs.row_4bpp.lay_row_4bpp.Given as goal
 
 abbrev pub invariant-loop-i : goal.invariant-loop-i

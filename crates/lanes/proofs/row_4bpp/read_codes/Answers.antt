@@ -1,6 +1,5 @@
 -- `lanes::row_4bpp::read_codes` meets its contract, byte by byte. Assumes nothing.
 use native.Mathlib.Omega.{arith}
-use borrow.Author.Rules.{rules}
 use Rattle.lanes.proofs.Texel4bpp.{codes-are}
 use Rattle.lanes.proofs.row_4bpp.read_codes.Goals as goal
 

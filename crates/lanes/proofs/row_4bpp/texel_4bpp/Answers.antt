@@ -1,5 +1,4 @@
 -- `lanes::row_4bpp::texel_4bpp` meets its contract: a place of the tables has a weight of at most 8, and a mask. Assumes nothing.
-use borrow.Author.Rules.{rules}
 use Rattle.lanes.proofs.Texel4bpp.{weights-le, keeps-mask, made}
 use Rattle.lanes.proofs.row_4bpp.texel_4bpp.Goals as goal
 

@@ -1,6 +1,5 @@
 -- `levels::check::as_called` meets its contract. Assumes nothing.
 use mathlib.Core.Path.{refl}
-use borrow.Author.Rules.{rules}
 use Rattle.levels.proofs.check.as_called.Goals as goal
 
 pub returns-in-Refused : goal.returns-in-Refused

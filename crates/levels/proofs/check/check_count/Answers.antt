@@ -1,6 +1,5 @@
 -- `levels::check::check_count` meets its contract. Assumes nothing.
 use mathlib.Core.Path.{sym, ◌∙◌}
-use borrow.Author.Rules.{rules}
 use borrow.Author.Tests.{le-leb, lt-leb}
 use Rattle.facts.proofs.Order.{holds-here, holds_later, none_left}
 use Rattle.levels.proofs.check.check_count.Goals as goal

@@ -1,6 +1,5 @@
 -- `levels::check::check_levels` meets its contract. Assumes nothing.
 use mathlib.Core.Path.{sym, ap, ◌∙◌}
-use borrow.Author.Rules.{rules}
 use Rattle.facts.proofs.Checks.{none_said, said-first, said-later}
 use Rattle.pvrtc.specs.Refusals.{size_checks}
 use Rattle.levels.specs.Levels.{plate_in}

@@ -1,6 +1,5 @@
 -- `levels::check::check_sides` meets its contract. Assumes nothing.
 use mathlib.Core.Path.{ap, ◌∙◌}
-use borrow.Author.Rules.{rules}
 use Rattle.facts.specs.Checks.{first_of}
 use Rattle.pvrtc.specs.Refusals.{size_checks}
 use Rattle.pvrtc.specs.declared.Picture.{Picture}

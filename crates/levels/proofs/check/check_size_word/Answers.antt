@@ -1,7 +1,6 @@
 -- `levels::check::check_size_word` meets its contract. Assumes nothing.
 use mathlib.Core.Bool.{not}
 use mathlib.Core.Path.{sym, ap, ◌∙◌}
-use borrow.Author.Rules.{rules}
 use borrow.Author.Tests.{lt-ltb, le-ltb, eq-eqb, ne_eqb}
 use Rattle.facts.proofs.Order.{holds-here, holds_later, none_left}
 use Rattle.levels.proofs.check.check_size_word.Goals as goal

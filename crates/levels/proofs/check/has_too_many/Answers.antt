@@ -3,7 +3,6 @@ use mathlib.Core.Path.{ap, ◌∙◌}
 use Prim.Native.Nat.{ℕ, suc}
 use native.Mathlib.Omega.{arith}
 use lib.Dec.{ltb}
-use borrow.Author.Rules.{rules}
 use Rattle.grid.specs.Grid.{log2}
 use Rattle.pvrtc.proofs.Accepted.{width_small, height-small}
 use Rattle.levels.specs.Levels.{plate_in}

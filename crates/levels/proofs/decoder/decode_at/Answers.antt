@@ -1,5 +1,4 @@
 -- `levels::decoder::decode_at` meets its contract. Assumes nothing.
-use borrow.Author.Rules.{rules}
 use Rattle.levels.proofs.Whole.{decoded-at}
 use Rattle.levels.proofs.decoder.decode_at.Goals as goal
 

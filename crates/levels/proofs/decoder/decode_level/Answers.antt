@@ -1,5 +1,4 @@
 -- `levels::decoder::decode_level` meets its contract. Assumes nothing.
-use borrow.Author.Rules.{rules}
 use Rattle.levels.proofs.Whole.{not-described, as-described}
 use Rattle.levels.proofs.decoder.decode_level.Goals as goal
 

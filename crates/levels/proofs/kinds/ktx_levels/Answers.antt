@@ -4,7 +4,6 @@ use mathlib.Core.Path.{◌≡◌}
 use Prim.Native.Nat.{ℕ}
 use lib.Dec.{ltb}
 use lib.ListN.{length}
-use borrow.Author.Rules.{rules}
 use borrow.Author.Tests.{lt-ltb, le-ltb}
 use Rattle.levels.proofs.Answers.{ktx-refused, ktx-cut, ktx-found}
 use Rattle.levels.proofs.kinds.ktx_levels.Goals as goal

@@ -1,5 +1,4 @@
 -- `levels::kinds::pvr_levels` meets its contract. Assumes nothing.
-use borrow.Author.Rules.{rules}
 use Rattle.levels.proofs.Answers.{pvr-refused, pvr-found}
 use Rattle.levels.proofs.kinds.pvr_levels.Goals as goal
 

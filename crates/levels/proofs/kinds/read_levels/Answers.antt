@@ -1,6 +1,5 @@
 -- `levels::kinds::read_levels` meets its contract. Assumes nothing.
 use mathlib.Core.Path.{sym, ◌∙◌}
-use borrow.Author.Rules.{rules}
 use Rattle.levels.proofs.Answers.{either-pvr, either-ktx}
 use Rattle.levels.proofs.kinds.read_levels.Goals as goal
 

@@ -1,7 +1,6 @@
 -- `levels::place::first_level` meets its contract. Assumes nothing.
 use mathlib.Core.Path.{refl}
 use native.Mathlib.Omega.{arith}
-use borrow.Author.Rules.{rules}
 use Rattle.levels.proofs.Ranges.{word_bytes}
 use Rattle.levels.proofs.place.first_level.Goals as goal
 

@@ -1,10 +1,7 @@
 -- `levels::place::level_at` meets its contract: after i steps it is at level i. The measure is how many are left. Assumes nothing.
-use mathlib.Core.Path.{◌≡◌, ap, ◌∙◌}
+use mathlib.Core.Path.{◌≡◌}
 use Prim.Native.Nat.{◌-◌, ◌≤◌}
-use native.Mathlib.Omega.{arith}
-use Rattle.levels.specs.Inner.{next_level}
 use Rattle.levels.specs.Levels.{level_at}
-use Rattle.levels.proofs.Ranges.{first-is, next-is, small_at}
 use Rattle.levels.proofs.place.level_at.Given as goal
 
 abbrev pub invariant-loop : goal.invariant-loop

@@ -1,9 +1,6 @@
 -- `levels::place::most_levels` meets its contract: what is counted and what can still be halved make the whole; the measure is what is left of the side.
 -- Assumes nothing.
-use mathlib.Core.Path.{◌≡◌}
-use Prim.Native.Nat.{suc, ◌+◌}
 use native.Mathlib.Omega.{arith}
-use Rattle.grid.specs.Grid.{log2}
 use Rattle.levels.proofs.Halving.{log2-half, log2-none, log2-small}
 use Rattle.levels.proofs.place.most_levels.Goals as goal
 

@@ -2,9 +2,7 @@
 -- Assumes nothing.
 use mathlib.Core.Path.{◌≡◌}
 use Prim.Native.Nat.{suc, ◌+◌}
-use native.Mathlib.Omega.{arith}
 use Rattle.grid.specs.Grid.{log2}
-use Rattle.levels.proofs.Halving.{log2-half, log2-none, log2-small}
 use Rattle.levels.proofs.place.most_levels.Given as goal
 
 abbrev pub invariant-loop-rest : goal.invariant-loop-rest

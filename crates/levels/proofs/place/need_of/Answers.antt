@@ -2,7 +2,6 @@
 use mathlib.Core.Bool.{Bool, false}
 use mathlib.Core.Path.{◌≡◌, ap, ◌∙◌}
 use Prim.Native.Nat.{ℕ, ◌≤◌}
-use borrow.Author.Rules.{rules}
 use Rattle.grid.specs.Words.{word_bytes}
 use Rattle.pixel.specs.declared.ChannelOrder.TheVariants.{BlueFirst}
 use Rattle.pvrtc.specs.Picture.{picture, grid_of}

@@ -1,6 +1,5 @@
 -- `levels::place::taken_by` meets its contract. Assumes nothing.
 use mathlib.Core.Path.{refl}
-use borrow.Author.Rules.{rules}
 use Rattle.levels.proofs.place.taken_by.Goals as goal
 
 pub returns-then-sized : goal.returns-then-sized

@@ -1,7 +1,6 @@
 -- `levels::reader::describe` meets its contract: the levels, then the size word. Assumes nothing.
 use mathlib.Core.Path.{ap}
 use native.Mathlib.Omega.{arith}
-use borrow.Author.Rules.{rules}
 use borrow.Author.Tests.{not-true, not-false}
 use Rattle.levels.specs.declared.Level.{Level}
 use Rattle.levels.proofs.Whole.{word-before, by-levels, walks, few, unsized, by_word, past_word}

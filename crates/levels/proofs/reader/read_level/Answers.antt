@@ -1,5 +1,4 @@
 -- `levels::reader::read_level` meets its contract. Assumes nothing.
-use borrow.Author.Rules.{rules}
 use Rattle.levels.proofs.Whole.{by-header, start-found, by-own}
 use Rattle.levels.proofs.reader.read_level.Goals as goal
 

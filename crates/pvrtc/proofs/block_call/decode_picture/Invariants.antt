@@ -1,13 +1,7 @@
 -- `pvrtc::block_call::decode_picture` meets its contract. The loop keeps that the first rows of blocks are laid. Assumes nothing.
-use mathlib.Core.Path.{sym, ap, ◌∙◌}
 use Prim.Native.Nat.{◌-◌, ◌≤◌}
-use native.Mathlib.Omega.{arith}
-use borrow.Author.Rules.{rules}
 use Rattle.paint.proofs.Sheets.{RowsLaid}
 use Rattle.texel.specs.Texel.{grid_texel}
-use Rattle.pvrtc.proofs.InPicture.{Going, none-laid, row-asked, row-ready, row_laid, all_laid}
-use Rattle.pvrtc.proofs.Unique.{by-words, by-none}
-use Rattle.pvrtc.specs.Refusals.{decoded_number}
 use Rattle.pvrtc.proofs.block_call.decode_picture.Given as goal
 
 abbrev pub invariant-loop-by : goal.invariant-loop-by

@@ -1,5 +1,4 @@
 -- `pvrtc::block_call::decode_pvrtc` meets its contract, as the call over a description does. Assumes nothing.
-use borrow.Author.Rules.{rules}
 use Rattle.pvrtc.proofs.block_call.decode_pvrtc.Goals as goal
 
 pub returns : goal.returns

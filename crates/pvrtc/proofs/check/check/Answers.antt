@@ -3,7 +3,6 @@ use mathlib.Core.Bool.{false}
 use mathlib.Core.List.{List, ◌++◌}
 use mathlib.Core.Path.{◌≡◌, sym, ap, ◌∙◌}
 use Prim.Native.Nat.{ℕ}
-use borrow.Author.Rules.{rules}
 use Rattle.facts.specs.Checks.{Check, first_of}
 use Rattle.facts.proofs.Checks.{none_said}
 use Rattle.pvrtc.proofs.Groups.{stops, goes_on}

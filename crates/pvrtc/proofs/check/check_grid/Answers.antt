@@ -2,7 +2,6 @@
 use mathlib.Core.Bool.{Bool}
 use mathlib.Core.List.{[], ◌∷◌}
 use mathlib.Core.Path.{ap, ◌∙◌}
-use borrow.Author.Rules.{rules}
 use Rattle.facts.specs.Checks.{check, first_of}
 use Rattle.pvrtc.proofs.check.check_grid.Goals as goal
 

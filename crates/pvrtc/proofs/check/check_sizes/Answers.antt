@@ -3,7 +3,6 @@ use mathlib.Core.Bool.{Bool}
 use mathlib.Core.List.{List, [], ◌∷◌}
 use mathlib.Core.Path.{ap, ◌∙◌}
 use Prim.Native.Nat.{ℕ}
-use borrow.Author.Rules.{rules}
 use Rattle.facts.specs.Checks.{Check, check, first_of}
 use Rattle.pvrtc.proofs.Groups.{stops, goes_on}
 use Rattle.pvrtc.specs.Refusals.{zero_side, large_side}

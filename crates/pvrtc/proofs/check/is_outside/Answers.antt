@@ -1,5 +1,4 @@
 -- `pvrtc::check::is_outside` meets its contract, call by call. Assumes nothing.
-use borrow.Author.Rules.{rules}
 use borrow.Author.Tests.{le-leb, lt-leb}
 use Rattle.pvrtc.specs.Refusals.{outside}
 use Rattle.pvrtc.proofs.check.is_outside.Goals as goal

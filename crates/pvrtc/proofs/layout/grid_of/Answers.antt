@@ -1,5 +1,4 @@
 -- `pvrtc::layout::grid_of` meets its contract. Assumes nothing.
-use borrow.Author.Rules.{rules}
 use Rattle.pvrtc.proofs.layout.grid_of.Goals as goal
 
 pub returns : goal.returns

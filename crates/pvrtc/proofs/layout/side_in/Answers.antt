@@ -1,6 +1,5 @@
 -- `pvrtc::layout::side_in` meets its contract, mode by mode. Assumes nothing.
 use native.Mathlib.Omega.{arith}
-use borrow.Author.Rules.{rules}
 use Rattle.pvrtc.specs.Picture.{side_in}
 use Rattle.pvrtc.proofs.layout.side_in.Goals as goal
 

@@ -1,14 +1,7 @@
 -- `pvrtc::plain::applicate_color_2bpp` meets its contract. The loop keeps that the first i texels are in the buffer. Assumes nothing.
-use mathlib.Core.List.{◌++◌}
-use mathlib.Core.Path.{◌≡◌, ◌∙◌, ap}
-use Prim.Native.Nat.{ℕ, ◌-◌, ◌≤◌, ◌/◌, ◌%◌}
-use native.Mathlib.Omega.{arith}
-use lib.ListN.{drop, replicate}
-use borrow.Author.Rules.{rules}
-use Rattle.facts.proofs.Tab.{Filled, filled_none, filled_more}
-use Rattle.facts.specs.Tab.{tab}
+use Prim.Native.Nat.{◌-◌, ◌≤◌, ◌/◌, ◌%◌}
+use Rattle.facts.proofs.Tab.{Filled}
 use Rattle.pixel.specs.Pixel.{packed}
-use Rattle.pvrtc.specs.Inner.{block_words}
 use Rattle.texel.specs.Inner.{nine_of}
 use Rattle.texel.specs.Texel.{texel_in}
 use Rattle.pvrtc.proofs.plain.applicate_color_2bpp.Given as goal

@@ -1,12 +1,11 @@
 -- `pvrtc::plain::decode_block_row` meets its contract. The loop keeps that the first bx blocks of the row are laid. Assumes nothing.
 use mathlib.Core.Path.{◌≡◌, refl, ap, ◌∙◌}
-use Prim.Native.Nat.{ℕ, ◌+◌, ◌-◌, ◌*◌, ◌≤◌, ◌<◌}
+use Prim.Native.Nat.{ℕ, ◌+◌, ◌*◌, ◌<◌}
 use native.Mathlib.Omega.{arith}
-use borrow.Author.Rules.{rules}
 use Rattle.grid.specs.Grid.{block_width, blocks}
 use Rattle.grid.proofs.Counts.{wide, block_start, blocks-cover}
 use Rattle.paint.specs.Sheet.{columns_from}
-use Rattle.paint.proofs.Sheets.{BlocksLaid, no_blocks, next-block, all_blocks, columns-fit, fits_more}
+use Rattle.paint.proofs.Sheets.{no_blocks, next-block, all_blocks, columns-fit, fits_more}
 use Rattle.texel.specs.Texel.{grid_texel}
 use Rattle.pvrtc.proofs.plain.decode_block_row.Goals as goal
 use Rattle.pvrtc.proofs.plain.decode_block_row.Goals.{In-loop-bx}
@@ -36,7 +35,10 @@ decode_block-requires c =
     let width = c.block_width-width.ensures in
     let l = c.loop-bx in
     let across : l.bx < c.args.g.across = omega
-    (arith, c.loop-bx-test.true, c.num_blocks_x-bx-end.ensures, c.requires.cover) in record { stands = (c.requires.words, record { across = across; down = c.requires.down }); fits = (rw (part, l.invariant.1.len) (columns-fit c.requires.fits _ _ (starts (goal.at.decode_block-requires c).In-loop-bx)), rw (part, width) (omega arith), rw part c.requires.few) }
+    (arith, c.loop-bx-test.true, c.num_blocks_x-bx-end.ensures, c.requires.cover) in record {
+      stands = (c.requires.words, record { across = across; down = c.requires.down });
+      fits = (rw (part, l.invariant.1.len) (columns-fit c.requires.fits _ _ (starts (goal.at.decode_block-requires c).In-loop-bx)), rw (part, width) (omega arith), rw part c.requires.few);
+    }
 
 pub overflow_step-bx : goal.overflow_step-bx
 overflow_step-bx c = omega (arith, c.loop-bx-test.true)

@@ -1,12 +1,7 @@
 -- `pvrtc::plain::decode_block_row` meets its contract. The loop keeps that the first bx blocks of the row are laid. Assumes nothing.
-use mathlib.Core.Path.{◌≡◌, refl, ap, ◌∙◌}
-use Prim.Native.Nat.{ℕ, ◌+◌, ◌-◌, ◌*◌, ◌≤◌, ◌<◌}
-use native.Mathlib.Omega.{arith}
-use borrow.Author.Rules.{rules}
-use Rattle.grid.specs.Grid.{block_width, blocks}
-use Rattle.grid.proofs.Counts.{wide, block_start, blocks-cover}
-use Rattle.paint.specs.Sheet.{columns_from}
-use Rattle.paint.proofs.Sheets.{BlocksLaid, no_blocks, next-block, all_blocks, columns-fit, fits_more}
+use Prim.Native.Nat.{◌+◌, ◌-◌, ◌*◌, ◌≤◌}
+use Rattle.grid.specs.Grid.{block_width}
+use Rattle.paint.proofs.Sheets.{BlocksLaid}
 use Rattle.texel.specs.Texel.{grid_texel}
 use Rattle.pvrtc.proofs.plain.decode_block_row.Given as goal
 

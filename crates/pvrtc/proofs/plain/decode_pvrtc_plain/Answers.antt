@@ -1,10 +1,6 @@
 -- `pvrtc::plain::decode_pvrtc_plain` meets its contract. The loop keeps that the first rows of blocks are laid. Assumes nothing.
 use mathlib.Core.Path.{sym, ap, ◌∙◌}
-use Prim.Native.Nat.{◌-◌, ◌≤◌}
 use native.Mathlib.Omega.{arith}
-use borrow.Author.Rules.{rules}
-use Rattle.paint.proofs.Sheets.{RowsLaid}
-use Rattle.texel.specs.Texel.{grid_texel}
 use Rattle.pvrtc.proofs.InPicture.{Going, none-laid, row-asked, row-ready, row_laid, all_laid}
 use Rattle.pvrtc.proofs.Unique.{by-words, by-none}
 use Rattle.pvrtc.specs.Refusals.{decoded_number}
@@ -28,7 +24,8 @@ pub loop-by-init : goal.loop-by-init
 loop-by-init c = (omega arith, none-laid (going (goal.at.loop-by-init c).After-num_blocks_y-by-end))
 
 pub overflow_mul-by : goal.overflow_mul-by
-overflow_mul-by c = omega (arith, row-asked (going (goal.at.overflow_mul-by c).After-num_blocks_y-by-end) c.loop-by.by c.loop-by-test.true (omega arith))
+overflow_mul-by c =
+    omega (arith, row-asked (going (goal.at.overflow_mul-by c).After-num_blocks_y-by-end) c.loop-by.by c.loop-by-test.true (omega arith))
 
 pub rows_from-requires : goal.rows_from-requires
 rows_from-requires c = row-asked (going (goal.at.rows_from-requires c).After-num_blocks_y-by-end) c.loop-by.by c.loop-by-test.true (omega arith)

@@ -1,19 +1,17 @@
 -- `pvrtc::row_call::decode_row` meets its contract. The loop keeps that the first x words are the row's texels, and what `InRow` says is held;
 -- it has too that no texel is refused. Assumes nothing.
 use mathlib.Core.Path.{◌≡◌, refl, sym, ap, ap₂, ◌∙◌}
-use mathlib.Core.Logic.{⊎_elim}
-use Prim.Native.Nat.{ℕ, ◌-◌, ◌/◌, ◌%◌, ◌≤◌, ◌<◌}
+use Prim.Native.Nat.{ℕ, ◌/◌, ◌%◌, ◌≤◌, ◌<◌}
 use native.Mathlib.Omega.{arith}
 use lib.ListN.{length}
-use borrow.Author.Rules.{rules}
 use Rattle.grid.specs.declared.Grid.{Grid}
 use Rattle.grid.specs.Grid.{block_width}
 use Rattle.grid.specs.Words.{Stands, InGrid}
 use Rattle.grid.proofs.Words.{some-across}
-use Rattle.paint.proofs.Laid.{Row, row-none}
+use Rattle.paint.proofs.Laid.{row-none}
 use Rattle.paint.specs.Paint.{painted}
 use Rattle.pvrtc.proofs.Accepted.{Accepted, accepted, stands, stands-as, block_in, block-as, row_inside, row-roomy, width_small, width_above}
-use Rattle.pvrtc.proofs.InRow.{not-refused, its-word, next_word, Before, Held, held_none, held_first, held-later, held-picture, held_next}
+use Rattle.pvrtc.proofs.InRow.{not-refused, its-word, next_word, Held, held_none, held_first, held-later, held-picture, held_next}
 use Rattle.pvrtc.proofs.InRow.{slides, slides-read}
 use Rattle.pvrtc.proofs.Unique.{by-words, by-none}
 use Rattle.texel.proofs.Shares.{half_high}
@@ -49,7 +47,11 @@ first_words-nine-requires c =
     let ok = ok_of (goal.at.first_words-nine-requires c).In-Done in
     let some = some-across (stands ok) in
     let row = (block_in ok 0 a.y (width_above a.p ok.sides) (row_inside a.p a.y (length a.row.now) ok.inside)).down in
-    let grid = c.grid_of-g.ensures in record { table_value = (c.spread_table-table.ensures, stands-as ok grid); in_grid = (rw grid (record { across = omega arith; down = row }), omega arith) }
+    let grid = c.grid_of-g.ensures in
+    record {
+      table_value = (c.spread_table-table.ensures, stands-as ok grid);
+      in_grid = (rw grid (record { across = omega arith; down = row }), omega arith);
+    }
 
 pub loop-x-init : goal.loop-x-init
 loop-x-init c =
@@ -75,7 +77,11 @@ block_at l h =
 
 pub next_words-next-requires : goal.next_words-next-requires
 next_words-next-requires c =
-    let table = c.spread_table-table.ensures in record { table_value = (table, stands_at (goal.at.next_words-next-requires c).At-loop-x); in_grid = (rw c.block_of-bx.ensures (block_at (goal.at.next_words-next-requires c).At-loop-x c.loop-x-test.true), omega arith) }
+    let table = c.spread_table-table.ensures in
+    record {
+      table_value = (table, stands_at (goal.at.next_words-next-requires c).At-loop-x);
+      in_grid = (rw c.block_of-bx.ensures (block_at (goal.at.next_words-next-requires c).At-loop-x c.loop-x-test.true), omega arith);
+    }
 
 pub texels_in-requires : goal.texels_in-requires
 texels_in-requires c =

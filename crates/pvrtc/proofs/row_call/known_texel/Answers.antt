@@ -4,7 +4,6 @@ use Prim.Native.Nat.{ℕ}
 use native.Mathlib.Nat.{mod-lt}
 use native.Mathlib.Omega.{arith}
 use lib.ListN.{get_or}
-use borrow.Author.Rules.{rules}
 use Rattle.grid.proofs.Counts.{wide}
 use Rattle.pvrtc.proofs.Unique.{by_word, by-refusal}
 use Rattle.pvrtc.specs.Refusals.{decoded_number}

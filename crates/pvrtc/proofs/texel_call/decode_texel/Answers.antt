@@ -1,7 +1,6 @@
 -- `pvrtc::texel_call::decode_texel` meets its contract: a picture that passes the checks has the texel, and a refusal is told. Assumes nothing.
 use mathlib.Core.Path.{sym, ap, ◌∙◌}
 use lib.ListN.{length}
-use borrow.Author.Rules.{rules}
 use Rattle.grid.specs.declared.Grid.{Grid}
 use Rattle.pvrtc.proofs.Accepted.{accepted, stands-as, block-as, texel-inside}
 use Rattle.pvrtc.proofs.Unique.{by_word, by-refusal}

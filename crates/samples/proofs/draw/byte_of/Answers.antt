@@ -1,5 +1,4 @@
 -- `draw::byte_of` meets its contract, by which of the two bytes it is. Assumes nothing.
-use borrow.Author.Rules.{rules}
 use borrow.Author.Tests.{eq-eqb, ne_eqb}
 use Rattle.samples.proofs.draw.byte_of.Goals as goal
 

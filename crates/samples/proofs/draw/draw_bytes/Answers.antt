@@ -1,11 +1,9 @@
 -- `draw::draw_bytes` meets its contract. The loop keeps that the first i bytes are drawn, in half as many steps. Assumes nothing.
 use mathlib.Core.Path.{◌≡◌, refl, ap, ◌∙◌}
-use Prim.Native.Nat.{ℕ, ◌+◌, ◌-◌, ◌/◌, ◌≤◌}
+use Prim.Native.Nat.{ℕ, ◌+◌, ◌/◌}
 use native.Mathlib.Omega.{arith}
-use lib.ListN.{length}
-use borrow.Author.Rules.{rules}
-use Rattle.facts.proofs.Tab.{Filled, filled_none, filled_more, filled-length}
-use Rattle.samples.specs.Draw.{state_after, byte_of, drawn_byte}
+use Rattle.facts.proofs.Tab.{filled_none, filled_more, filled-length}
+use Rattle.samples.specs.Draw.{state_after, byte_of}
 use Rattle.samples.proofs.Drawing.{step-to-byte, drawn-end}
 use Rattle.samples.proofs.draw.draw_bytes.Goals as goal
 

@@ -1,11 +1,9 @@
 -- `draw::draw_words` meets its contract. The loop keeps that the first i words are drawn, in twice as many steps. Assumes nothing.
 use mathlib.Core.Path.{◌≡◌, refl, ap, ◌∙◌}
-use Prim.Native.Nat.{◌+◌, ◌*◌, ◌-◌, ◌≤◌}
+use Prim.Native.Nat.{◌+◌, ◌*◌}
 use native.Mathlib.Omega.{arith}
-use lib.ListN.{length}
-use borrow.Author.Rules.{rules}
-use Rattle.facts.proofs.Tab.{Filled, filled_none, filled_more, filled-length}
-use Rattle.samples.specs.Draw.{state_after, drawn_word}
+use Rattle.facts.proofs.Tab.{filled_none, filled_more, filled-length}
+use Rattle.samples.specs.Draw.{state_after}
 use Rattle.samples.proofs.Drawing.{step-more, drawn-end}
 use Rattle.samples.proofs.draw.draw_words.Goals as goal
 

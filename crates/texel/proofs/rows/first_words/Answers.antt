@@ -1,7 +1,6 @@
 -- `texel::rows::first_words` meets its contract: every column counts, and the rows by their shares. Assumes nothing.
 use mathlib.Core.Path.{ap, ◌∙◌}
 use native.Mathlib.Omega.{arith}
-use borrow.Author.Rules.{rules}
 use Rattle.texel.proofs.Across.{row_at, few-shares}
 use Rattle.texel.proofs.Needed.{few-every}
 use Rattle.texel.specs.Needed.{needed_about, every}
@@ -11,7 +10,8 @@ pub needed_words-requires : goal.needed_words-requires
 needed_words-requires c =
     let a = c.args in
     let p = c.requires in
-    let row = row_at 2 a.py c.narrow_shares-narrow.ensures p.in_grid.1 in record { table_value = p.table_value; in_grid = (p.in_grid.0, few-every, rw row (few-shares 2 a.py (omega arith) p.in_grid.1)) }
+    let row = row_at 2 a.py c.narrow_shares-narrow.ensures p.in_grid.1 in
+    record { table_value = p.table_value; in_grid = (p.in_grid.0, few-every, rw row (few-shares 2 a.py (omega arith) p.in_grid.1)) }
 
 pub returns : goal.returns
 returns c =

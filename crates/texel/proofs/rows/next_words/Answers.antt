@@ -1,5 +1,4 @@
 -- `texel::rows::next_words` meets its contract: two columns move, and a third is read. Assumes nothing.
-use borrow.Author.Rules.{rules}
 use Rattle.texel.proofs.Across.{row_at}
 use Rattle.texel.proofs.Needed.{slid-to}
 use Rattle.texel.proofs.rows.next_words.Goals as goal

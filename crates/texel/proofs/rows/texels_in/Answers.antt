@@ -1,14 +1,9 @@
 -- `texel::rows::texels_in` meets its contract. The loop keeps that the first i texels are stored. Assumes nothing.
 use mathlib.Core.Path.{◌≡◌, refl}
-use Prim.Native.Nat.{◌+◌, ◌-◌, ◌≤◌}
 use native.Mathlib.Omega.{arith}
-use borrow.Author.Rules.{rules}
-use Rattle.facts.proofs.Tab.{Filled, filled_none, filled_more, filled-length}
-use Rattle.grid.specs.Grid.{half}
+use Rattle.facts.proofs.Tab.{filled_none, filled_more, filled-length}
 use Rattle.texel.proofs.Across.{row_at, few-shares, window-low, weights-low, with-texels}
 use Rattle.texel.proofs.Shares.{half_high}
-use Rattle.texel.specs.Summed.{texel_by}
-use Rattle.pixel.specs.Pixel.{packed}
 use Rattle.texel.proofs.rows.texels_in.Goals as goal
 
 pub sum_down-window-requires : goal.sum_down-window-requires

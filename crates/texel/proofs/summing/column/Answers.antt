@@ -1,7 +1,6 @@
 -- `texel::summing::column` meets its contract: three words of a column have small colours. Assumes nothing.
 use Prim.Native.Nat.{◌+◌}
 use native.Mathlib.Omega.{arith}
-use borrow.Author.Rules.{rules}
 use Rattle.texel.proofs.Across.{column-is, color-low}
 use Rattle.texel.proofs.summing.column.Goals as goal
 

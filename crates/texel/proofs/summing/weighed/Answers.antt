@@ -1,5 +1,4 @@
 -- `texel::summing::weighed` meets its contract, channel by channel. Assumes nothing.
-use borrow.Author.Rules.{rules}
 use Rattle.texel.proofs.summing.weighed.Goals as goal
 
 pub returns : goal.returns

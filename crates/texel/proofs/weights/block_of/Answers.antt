@@ -2,7 +2,6 @@
 use mathlib.Core.Bool.{true, false}
 use mathlib.Core.Path.{refl}
 use native.Mathlib.Omega.{arith}
-use borrow.Author.Rules.{rules}
 use Rattle.texel.specs.Inner.{InNine}
 use Rattle.texel.proofs.weights.block_of.Goals as goal
 

@@ -1,6 +1,5 @@
 -- `texel::weights::fill` meets its contract, rule by rule. Assumes nothing.
 use native.Mathlib.Omega.{arith}
-use borrow.Author.Rules.{rules}
 use Rattle.grid.specs.Grid.{half}
 use Rattle.texel.proofs.Made.{by-nothing, by-around, by-above-below, by-left-right}
 use Rattle.texel.proofs.Shares.{half_high}
@@ -29,9 +28,15 @@ returns-in-Around c =
 pub returns-in-AboveBelow : goal.returns-in-AboveBelow
 returns-in-AboveBelow c =
     let a = c.args in
-    (by-above-below (half a.is2bpp) (only_weights a.weights.now) a.x a.y c.in-AboveBelow.is c.near-in-AboveBelow.ensures.0 c.near-in-AboveBelow-2.ensures.0, omega arith)
+    (
+      by-above-below (half a.is2bpp) (only_weights a.weights.now) a.x a.y c.in-AboveBelow.is c.near-in-AboveBelow.ensures.0 c.near-in-AboveBelow-2.ensures.0,
+      omega arith,
+    )
 
 pub returns-in-LeftRight : goal.returns-in-LeftRight
 returns-in-LeftRight c =
     let a = c.args in
-    (by-left-right (half a.is2bpp) (only_weights a.weights.now) a.x a.y c.in-LeftRight.is c.near-in-LeftRight.ensures.0 c.near-in-LeftRight-2.ensures.0, omega arith)
+    (
+      by-left-right (half a.is2bpp) (only_weights a.weights.now) a.x a.y c.in-LeftRight.is c.near-in-LeftRight.ensures.0 c.near-in-LeftRight-2.ensures.0,
+      omega arith,
+    )

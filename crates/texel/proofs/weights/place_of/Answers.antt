@@ -1,7 +1,6 @@
 -- `texel::weights::place_of` meets its contract, by the depth. Assumes nothing.
 use mathlib.Core.Path.{refl}
 use native.Mathlib.Omega.{arith}
-use borrow.Author.Rules.{rules}
 use Rattle.texel.proofs.weights.place_of.Goals as goal
 
 pub returns-then-is2bpp : goal.returns-then-is2bpp

@@ -1,7 +1,6 @@
 -- `texel::weights::punched` meets its contract, by the depth. Assumes nothing.
 use mathlib.Core.Bool.{true, false}
 use native.Mathlib.Omega.{arith}
-use borrow.Author.Rules.{rules}
 use Rattle.texel.specs.Inner.{Place}
 use Rattle.texel.proofs.weights.punched.Goals as goal
 

@@ -1,5 +1,4 @@
 -- `texel::weights::rule_at` meets its contract, by where the texel lies. Assumes nothing.
-use borrow.Author.Rules.{rules}
 use borrow.Author.Tests.{eq-eqb, ne_eqb}
 use Rattle.texel.proofs.weights.rule_at.Goals as goal
 

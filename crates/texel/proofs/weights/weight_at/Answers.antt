@@ -2,7 +2,6 @@
 use mathlib.Core.Path.{◌≡◌}
 use Prim.Native.Nat.{◌*◌}
 use native.Mathlib.Omega.{arith}
-use borrow.Author.Rules.{rules}
 use Rattle.grid.specs.Grid.{half}
 use Rattle.texel.proofs.Made.{weight}
 use Rattle.texel.proofs.Shares.{half_high, half-low}
@@ -28,4 +27,7 @@ fill-requires c =
 pub returns : goal.returns
 returns c =
     let a = c.args in
-    (weight a.is2bpp a.own (only_weights a.weights.now) a.px a.py c.rule_at-rule.ensures c.block_width-width.ensures c.fill.ensures.0, c.fill.ensures.1)
+    (
+      weight a.is2bpp a.own (only_weights a.weights.now) a.px a.py c.rule_at-rule.ensures c.block_width-width.ensures c.fill.ensures.0,
+      c.fill.ensures.1,
+    )

@@ -1,5 +1,4 @@
 -- `texel::weights::weights_in` meets its contract, word by word. Assumes nothing.
-use borrow.Author.Rules.{rules}
 use Rattle.facts.specs.Tab.{tab}
 use Rattle.texel.specs.Summed.{weights_of}
 use Rattle.texel.proofs.weights.weights_in.Goals as goal

@@ -1,5 +1,4 @@
 -- `texel::words::address` meets its contract: a place of the grid, and its address. Assumes nothing.
-use borrow.Author.Rules.{rules}
 use Rattle.grid.proofs.Words.{beside-in, placed-in}
 use Rattle.texel.proofs.Nine.{about-at}
 use Rattle.texel.proofs.words.address.Goals as goal

@@ -1,12 +1,10 @@
 -- `texel::words::needed_words` meets its contract. The loop keeps that the first k words are read, as far as they are needed. Assumes nothing.
 use mathlib.Core.Path.{refl}
-use Prim.Native.Nat.{◌-◌, ◌*◌, ◌≤◌, ◌/◌, ◌%◌}
+use Prim.Native.Nat.{◌/◌, ◌%◌}
 use native.Mathlib.Nat.{mul-le-mul}
 use native.Mathlib.Omega.{arith}
-use lib.ListN.{get_or}
-use borrow.Author.Rules.{rules}
-use Rattle.facts.proofs.Tab.{Filled, filled_none, filled_more, filled-end}
-use Rattle.texel.specs.Needed.{word_about, word_if, needed_about}
+use Rattle.facts.proofs.Tab.{filled_none, filled_more, filled-end}
+use Rattle.texel.specs.Needed.{needed_about}
 use Rattle.texel.proofs.words.needed_words.Goals as goal
 
 pub loop-k-init : goal.loop-k-init

@@ -1,13 +1,6 @@
 -- `texel::words::nine_words` meets its contract. The loop keeps that the first k words are read. Assumes nothing.
-use mathlib.Core.Path.{refl, ap, ◌∙◌}
-use Prim.Native.Nat.{ℕ, ◌-◌, ◌*◌, ◌≤◌}
-use native.Mathlib.Omega.{arith}
-use lib.ListN.{drop}
-use borrow.Author.Rules.{rules}
-use Rattle.facts.proofs.Tab.{Filled, filled_none, filled_more, filled-end}
-use Rattle.grid.proofs.Words.{exact}
-use Rattle.word.specs.Word.{word_of}
-use Rattle.texel.specs.Inner.{nine_about}
+use Prim.Native.Nat.{◌-◌, ◌≤◌}
+use Rattle.facts.proofs.Tab.{Filled}
 use Rattle.texel.specs.Needed.{word_about}
 use Rattle.texel.proofs.words.nine_words.Given as goal
 

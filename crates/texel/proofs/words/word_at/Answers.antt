@@ -1,6 +1,5 @@
 -- `texel::words::word_at` meets its contract: a word at the start of what is left of the data. Assumes nothing.
 use mathlib.Core.Path.{◌∙◌}
-use borrow.Author.Rules.{rules}
 use Rattle.texel.proofs.Nine.{word-from}
 use Rattle.texel.proofs.words.word_at.Goals as goal
 

@@ -3,12 +3,12 @@
 use mathlib.Core.Path.{◌≡◌}
 use mathlib.Core.Bool.{Bool}
 use mathlib.Core.List.{List}
-use Prim.Native.Nat.{ℕ, ◌-◌, ◌≤◌}
+use Prim.Native.Nat.{ℕ}
 use native.Mathlib.Omega.{arith}
 use lib.ListN.{length}
 use borrow.Author.Rules.{rules}
 use Rattle.facts.specs.Tab.{tab}
-use Rattle.facts.proofs.Tab.{Filled, filled_none, filled_more, filled-end}
+use Rattle.facts.proofs.Tab.{filled_none, filled_more, filled-end}
 use Rattle.word.specs.Word.{modulation, mode, weight2bpp, fill2bpp, with_weights_2bpp}
 use Rattle.word.specs.declared.Fill.{Fill}
 use Rattle.word.specs.declared.PVRTCTexelInfo.{PVRTCTexelInfo}

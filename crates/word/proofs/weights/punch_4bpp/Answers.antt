@@ -2,7 +2,6 @@
 use Prim.Native.Nat.{◌<◌, ◌^◌}
 use native.Mathlib.Omega.{arith}
 use lib.Pow.{pow-lt}
-use borrow.Author.Rules.{rules}
 use borrow.Author.Tests.{eq-eqb, ne_eqb}
 use Rattle.word.specs.Word.{punch4bpp}
 use Rattle.word.proofs.weights.punch_4bpp.Goals as goal

@@ -3,7 +3,6 @@
 use Prim.Native.Nat.{◌/◌}
 use native.Mathlib.Nat.{div-one}
 use native.Mathlib.Omega.{arith}
-use borrow.Author.Rules.{rules}
 use borrow.Author.Tests.{eq-eqb, ne_eqb}
 use Rattle.word.specs.Word.{stored2bpp}
 use Rattle.word.proofs.Bounds.{standard-le}
