@@ -83,20 +83,19 @@ returns-then-need-gt32768 c =
     let at = (goal.at.returns-then-need-gt32768 c).After-need_of-need in
     (unrefused at (holds-here _ _ _ (lt-ltb 32768 _ (rw (asked at) at c.if-need-gt32768.true))), omega arith)
 
+-- and past the need, which is not above 32,768
+past-need : (k : After-need_of-need) {n : ℕ} → k.need_of-need.result ≤ 32768
+    → n ≡ first_of (check (other_size k.args.s) 36 ∷ []) → n ≡ first_of (limit_checks k.args.s)
+past-need k few e = unrefused k (holds_later _ _ _ (le-ltb 32768 _ (rw (asked k) at few)) e)
+
 pub returns-then-not-fits_size : goal.returns-then-not-fits_size
 returns-then-not-fits_size c =
     let at = (goal.at.returns-then-not-fits_size c).After-need_of-need in
-    let sized = c.fits_size.ensures ∙ ap (fits_size c.args.s.size) (asked at) in (
-      unrefused at (holds_later _ _ _ (le-ltb 32768 _ (rw (asked at) at c.if-need-gt32768.false))
-          (holds-here _ _ _ (ap not (sym sized ∙ c.if-not-fits_size.true)))),
-      omega arith,
-    )
+    let sized = c.fits_size.ensures ∙ ap (fits_size c.args.s.size) (asked at) in
+    (past-need at c.if-need-gt32768.false (holds-here _ _ _ (ap not (sym sized ∙ c.if-not-fits_size.true))), omega arith)
 
 pub returns : goal.returns
 returns c =
     let at = (goal.at.returns c).After-need_of-need in
-    let sized = c.fits_size.ensures ∙ ap (fits_size c.args.s.size) (asked at) in (
-      unrefused at (holds_later _ _ _ (le-ltb 32768 _ (rw (asked at) at c.if-need-gt32768.false))
-          (holds_later _ _ _ (ap not (sym sized ∙ c.if-not-fits_size.false)) none_left)),
-      omega arith,
-    )
+    let sized = c.fits_size.ensures ∙ ap (fits_size c.args.s.size) (asked at) in
+    (past-need at c.if-need-gt32768.false (holds_later _ _ _ (ap not (sym sized ∙ c.if-not-fits_size.false)) none_left), omega arith)
