@@ -173,11 +173,9 @@ fn print_drawn(
 // Fills the data with bytes that the generator draws, two a step.
 fn fill(data: &mut [u8], bits: [u64; 2], state: u64) -> u64 {
     let mut reached = state;
-    let mut i = 0;
-    while i < data.len() {
+    for i in 0..data.len() {
         reached = step_before(reached, i);
         data[i] = byte_of(reached, bits, i);
-        i += 1;
     }
     reached
 }
