@@ -1,15 +1,15 @@
 -- What reading standard input gives, and what the program makes of it. Assumes nothing: these are definitions.
-use Rattle.std.specs.Prelude.{◌≡◌, List, ℕ, zero, suc, ◌<◌, ◌≤◌, ℤ, pos, negsuc, length, take}
+use Rattle.std.specs.Prelude.{◌≡◌, List, ℕ, zero, suc, ◌<◌, ◌≤◌, Result, Ok, Err, length, take}
 use Rattle.convert.specs.Output.{output, read_limit}
 use Rattle.plate.specs.declared.Input.{Input}
 use Rattle.plate.specs.declared.Read.{Read}
 use Rattle.plate.specs.declared.Read.TheVariants.{Bytes, End, Failed}
 
--- What an answer of the C library's `read` means: so many bytes; 0, the end of the input; below 0, a failure.
-abbrev pub meant : ℤ → Read
-meant (pos zero) = End
-meant (pos (suc n)) = Bytes (suc n)
-meant (negsuc n) = Failed
+-- What an answer of std's `read` means: so many bytes; 0, the end of the input; an error, a failure.
+abbrev pub meant : {E : Type 0} → Result ℕ E → Read
+meant (Ok zero) = End
+meant (Ok (suc n)) = Bytes (suc n)
+meant (Err e) = Failed
 
 -- One read into `len` bytes gave at least one, and no more than these.
 abbrev pub within : Read → (len : ℕ) → Type 0

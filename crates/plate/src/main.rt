@@ -5,6 +5,8 @@ ghost use Rattle.std.specs.Prelude.{◌≡◌, ◌-◌, ◌<◌, length};
 ghost use Rattle.convert.specs.Output.{Room, read_limit};
 ghost use Rattle.plate.specs.Input.{meant, within, Stopped, Answers};
 
+use std::io;
+
 // Of a KTX file 64 + 4,096 + 4 + 32,768 bytes can matter, of a PVR file fewer; later ones are left unread.
 const READ_LIMIT: usize = 36932;
 
@@ -23,43 +25,43 @@ struct Input {
     last: Read,
 }
 
-// What an answer of the C library's `read` means.
-fn meaning(got: isize) -> Read
+// What an answer of std's `read` means.
+fn meaning(got: io::Result<usize>) -> Read
     ensures { result ≡ meant got }
 {
-    if got < 0 {
+    let Ok(got) = got else {
         return Read::Failed;
-    }
+    };
     if got == 0 {
         return Read::End;
     }
-    Read::Bytes(got as usize)
+    Read::Bytes(got)
 }
 
 // One read into buf.
-fn read_some(buf: &mut [u8]) -> Read
+fn read_some(from: &mut impl io::Read, buf: &mut [u8]) -> Read
     ensures { within result (length buf.new) }
 {
-    meaning(libc::read(0, buf))
+    meaning(from.read(buf))
 }
 
 // One read into buf from place `at` on, where there is room: into no room at all, 0 bytes would not mean the end.
-fn read_at(buf: &mut [u8], at: usize) -> Read
+fn read_at(from: &mut impl io::Read, buf: &mut [u8], at: usize) -> Read
     requires { at < length buf.old }
     ensures { within result (length buf.new - at) }
 {
-    read_some(&mut buf[at..])
+    read_some(from, &mut buf[at..])
 }
 
 // Reads until buf is full, the input ends or a read fails. Before the first read, `last` stands for a read of no bytes.
-fn read_input(buf: &mut [u8]) -> Input
+fn read_input(from: &mut impl io::Read, buf: &mut [u8]) -> Input
     requires { length buf.old ≡ read_limit }
     ensures { Stopped result }
 {
     let mut count = 0;
     let mut last = Read::Bytes(0);
     while count < buf.len() {
-        last = read_at(buf, count);
+        last = read_at(from, buf, count);
         let Read::Bytes(n) = last else {
             return Input { count, last };
         };
@@ -78,18 +80,31 @@ fn answer(input: &[u8], got: Input, image: &mut [u32], out: &mut [u8]) -> usize
     convert::convert(&input[..n], image, out)
 }
 
-fn main() {
+// Writes what is to be written for the input on standard output. The arrays are lent whole: where they are made, a proof would count them through.
+fn print_answer(
+    to: &impl Print,
+    input: &[u8; READ_LIMIT],
+    got: Input,
+    image: &mut [u32; 131072],
+    out: &mut [u8; 524306],
+) -> io::Result<()>
+    requires { Stopped got }
+{
+    let m = answer(input, got, image, out);
+    to.write_all(&out[..m])
+}
+
+fn main(rt: HostRuntime) {
     let mut input = [0u8; READ_LIMIT];
-    let got = read_input(&mut input);
+    let got = read_input(&mut rt.stdin(), &mut input);
     let last = got.last;
     if let Read::Failed = last {
-        io::write_all(2, b"plate: standard input could not be read\n");
+        let _ = rt.eprint("plate: standard input could not be read\n");
         return;
     }
     let mut image = [0u32; 131072];
     let mut out = [0u8; 524306];
-    let m = answer(&input, got, &mut image, &mut out);
-    if !io::write_all(1, &out[..m]) {
-        io::write_all(2, b"plate: standard output could not be written\n");
+    if print_answer(&rt, &input, got, &mut image, &mut out).is_err() {
+        let _ = rt.eprint("plate: standard output could not be written\n");
     }
 }

@@ -625,9 +625,14 @@ fn print_program(printer: &mut impl Write, bytes: &[u8], end: usize) -> io::Resu
     let mut image = [0u32; 131072];
     let mut out = [0u8; 524306];
     let n = facts::least(end, bytes.len());
-    let written = convert::plate_convert(&bytes[..n], &mut image, &mut out);
+    let written = write_program(&bytes[..n], &mut image, &mut out);
     print_name(printer, b"; program writes", written as u64)?;
     printer.write_all(b"\n")
+}
+
+// The program's call, into arrays that are lent whole: where they are made, a proof would count them through.
+fn write_program(file: &[u8], image: &mut [u32; 131072], out: &mut [u8; 524306]) -> usize {
+    convert::plate_convert(file, image, out)
 }
 
 // A name and a number of a line.

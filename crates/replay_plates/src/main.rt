@@ -266,8 +266,19 @@ fn print_answer(printer: &mut impl Write, bytes: &[u8], end: usize) -> io::Resul
 fn print_converted(printer: &mut impl Write, bytes: &[u8], end: usize) -> io::Result<()> {
     let mut image = [0u32; 131072];
     let mut out = [0u8; 524306];
+    print_into(printer, bytes, end, &mut image, &mut out)
+}
+
+// The same, into arrays that are lent whole: where they are made, a proof would count them through.
+fn print_into(
+    printer: &mut impl Write,
+    bytes: &[u8],
+    end: usize,
+    image: &mut [u32; 131072],
+    out: &mut [u8; 524306],
+) -> io::Result<()> {
     let n = facts::least(end, bytes.len());
-    print_written(printer, &bytes[..n], &mut image, &mut out)
+    print_written(printer, &bytes[..n], image, out)
 }
 
 fn print_written(
