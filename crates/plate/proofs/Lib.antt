@@ -1,2 +1,2 @@
-pub mod Signs
-pub mod Stops
+mod Takes
+mod Whole

@@ -1,21 +1,35 @@
 -- What reading standard input gives, and what the program makes of it. Assumes nothing: these are definitions.
-use Rattle.std.specs.Prelude.{◌≡◌, List, ℕ, zero, suc, ◌<◌, ◌≤◌, ℤ, pos, negsuc, length, take}
+use Rattle.std.specs.Prelude.{◌≡◌, List, ℕ, zero, suc, ◌<◌, ◌≤◌, Result, Ok, Err, Option, length, take}
+use Rattle.std.specs.Io.KnownBytes.{Consumes, Keeps, IsAtEnd}
 use Rattle.convert.specs.Output.{output, read_limit}
 use Rattle.plate.specs.declared.Input.{Input}
 use Rattle.plate.specs.declared.Read.{Read}
 use Rattle.plate.specs.declared.Read.TheVariants.{Bytes, End, Failed}
 
--- What an answer of the C library's `read` means: so many bytes; 0, the end of the input; below 0, a failure.
-abbrev pub meant : ℤ → Read
-meant (pos zero) = End
-meant (pos (suc n)) = Bytes (suc n)
-meant (negsuc n) = Failed
+-- What an answer of std's `read` means: so many bytes; 0, the end of the input; an error, a failure.
+abbrev pub meant : {E : Type 0} → Result ℕ E → Read
+meant (Ok zero) = End
+meant (Ok (suc n)) = Bytes (suc n)
+meant (Err e) = Failed
 
 -- One read into `len` bytes gave at least one, and no more than these.
 abbrev pub within : Read → (len : ℕ) → Type 0
 within (Bytes n) len = (0 < n) × (n ≤ len)
 within End len = Unit {0}
 within Failed len = Unit {0}
+
+-- What one read took of what was left to read, where that is known: the bytes that it gave, which stand in front of `bytes`. At the end nothing was
+-- left, and a read that failed took nothing.
+abbrev pub Took : (old new : Option (List ℕ)) → (bytes : List ℕ) → Read → Type 0
+Took old new bytes (Bytes n) = Consumes old new (take n bytes)
+Took old new bytes End = Keeps old new × IsAtEnd new
+Took old new bytes Failed = Keeps old new
+
+-- Where the last read said that the input ended, nothing is left to read.
+abbrev pub AtEnd : Read → (left : Option (List ℕ)) → Type 0
+AtEnd (Bytes n) left = Unit {0}
+AtEnd End left = IsAtEnd left
+AtEnd Failed left = Unit {0}
 
 -- After so many bytes, reading stopped: the read limit is reached, or else the last read gave no more.
 abbrev pub stopped : Read → (count : ℕ) → Type 0

@@ -10,6 +10,8 @@ ghost use Rattle.convert.specs.Output.{Room};
 
 use ktx::Header;
 use pixel::ChannelOrder;
+use std::io;
+use std::io::{BufWriter, Write};
 
 // What is chosen of a file, where it ends, and how many words are lent for its picture.
 #[derive(Clone, Copy)]
@@ -33,159 +35,179 @@ enum Row {
     Faults,
 }
 
-fn main() {
+fn main(rt: HostRuntime) -> io::Result<()> {
+    let mut printer = BufWriter::new(rt.alloc(), io::writer(&rt))?;
     let mut bytes = [0u8; 66000];
-    print_files(&mut bytes);
+    print_files(&mut printer, &mut bytes)?;
+    printer.flush()
 }
 
-fn print_files(bytes: &mut [u8]) {
-    print_run(Row::Cut, 115, bytes);
-    print_places(bytes);
-    print_turned(bytes);
-    print_listed(bytes);
-    print_run(Row::Faults, 225, bytes);
+fn print_files(printer: &mut impl Write, bytes: &mut [u8]) -> io::Result<()> {
+    print_run(printer, Row::Cut, 115, bytes)?;
+    print_places(printer, bytes)?;
+    print_turned(printer, bytes)?;
+    print_listed(printer, bytes)?;
+    print_run(printer, Row::Faults, 225, bytes)
 }
 
 // The rows below n, one after another.
-fn print_run(kind: Row, n: u64, bytes: &mut [u8]) {
+fn print_run(printer: &mut impl Write, kind: Row, n: u64, bytes: &mut [u8]) -> io::Result<()> {
     for row in 0..n {
-        print_row(kind, row, bytes);
+        print_row(printer, kind, row, bytes)?;
     }
+    Ok(())
 }
 
 // The listed rows.
-fn print_rows(kind: Row, listed: &[u64], bytes: &mut [u8]) {
-    for i in 0..listed.len() {
-        print_row(kind, listed[i], bytes);
+fn print_rows(
+    printer: &mut impl Write,
+    kind: Row,
+    listed: &[u64],
+    bytes: &mut [u8],
+) -> io::Result<()> {
+    for row in listed {
+        print_row(printer, kind, *row, bytes)?;
     }
+    Ok(())
 }
 
-fn print_row(kind: Row, row: u64, bytes: &mut [u8]) {
+fn print_row(printer: &mut impl Write, kind: Row, row: u64, bytes: &mut [u8]) -> io::Result<()> {
     match kind {
-        Row::Cut => print_cut(row, bytes),
-        Row::Place => print_field(row, bytes),
-        Row::End => print_end(row, bytes),
-        Row::Faults => print_faults(row, bytes),
+        Row::Cut => print_cut(printer, row, bytes),
+        Row::Place => print_field(printer, row, bytes),
+        Row::End => print_end(printer, row, bytes),
+        Row::Faults => print_faults(printer, row, bytes),
     }
 }
 
 // The first bytes of a plain file: every cut of the header, of the key/value bytes, of the size word and of the data.
-fn print_cut(row: u64, bytes: &mut [u8]) {
+fn print_cut(printer: &mut impl Write, row: u64, bytes: &mut [u8]) -> io::Result<()> {
     lay(bytes, plain_case());
-    print_name(b"cut", row);
-    print_answers(bytes, row as usize, 8200);
+    print_name(printer, b"cut", row)?;
+    print_answers(printer, bytes, row as usize, 8200)
 }
 
 // Four bytes of a plain file with another value.
-fn print_places(bytes: &mut [u8]) {
-    print_rows(Row::Place, &tables::PLACES, bytes);
+fn print_places(printer: &mut impl Write, bytes: &mut [u8]) -> io::Result<()> {
+    print_rows(printer, Row::Place, &tables::PLACES, bytes)
 }
 
 // The last eight digits of the row, which is hexadecimal, at the place before them.
-fn print_field(row: u64, bytes: &mut [u8]) {
+fn print_field(printer: &mut impl Write, row: u64, bytes: &mut [u8]) -> io::Result<()> {
     let at = row / 4294967296;
     let v = row % 4294967296;
     lay(bytes, plain_case());
     samples::set_u32(bytes, at as u32, v as u32);
-    print_name(b"place", at);
-    io::write_all(1, b" has ");
-    io::print_hex(1, v, 8);
-    print_answers(bytes, 66000, 8200);
+    print_name(printer, b"place", at)?;
+    write!(printer, " has {v:08x}")?;
+    print_answers(printer, bytes, 66000, 8200)
 }
 
 // A plain file as a big-endian machine writes it: all fields turned, and the size word.
-fn print_turned(bytes: &mut [u8]) {
+fn print_turned(printer: &mut impl Write, bytes: &mut [u8]) -> io::Result<()> {
     samples::lay_file(&tables::TURNED, bytes);
     samples::set_u32(bytes, 76, 0x20000000);
-    io::write_all(1, b"all fields turned");
-    print_answers(bytes, 66000, 8200);
+    printer.write_all(b"all fields turned")?;
+    print_answers(printer, bytes, 66000, 8200)
 }
 
 // The listed files. Each list of cases is lent by a function of its own: one that holds many takes long to prove.
-fn print_listed(bytes: &mut [u8]) {
-    print_format_cases(bytes);
-    print_key_values(bytes);
-    print_side_cases(bytes);
-    print_long_sides(bytes);
-    print_room_cases(bytes);
-    print_tiny(bytes);
+fn print_listed(printer: &mut impl Write, bytes: &mut [u8]) -> io::Result<()> {
+    print_format_cases(printer, bytes)?;
+    print_key_values(printer, bytes)?;
+    print_side_cases(printer, bytes)?;
+    print_long_sides(printer, bytes)?;
+    print_room_cases(printer, bytes)?;
+    print_tiny(printer, bytes)
 }
 
-fn print_format_cases(bytes: &mut [u8]) {
-    print_cases(b"case", &tables::FORMAT_CASES, bytes);
+fn print_format_cases(printer: &mut impl Write, bytes: &mut [u8]) -> io::Result<()> {
+    print_cases(printer, b"case", &tables::FORMAT_CASES, bytes)
 }
 
-fn print_key_values(bytes: &mut [u8]) {
-    print_rows(Row::End, &tables::KEY_VALUES, bytes);
+fn print_key_values(printer: &mut impl Write, bytes: &mut [u8]) -> io::Result<()> {
+    print_rows(printer, Row::End, &tables::KEY_VALUES, bytes)
 }
 
 // A plain file with other key/value bytes, cut where the last five digits of the row say.
-fn print_end(row: u64, bytes: &mut [u8]) {
+fn print_end(printer: &mut impl Write, row: u64, bytes: &mut [u8]) -> io::Result<()> {
     let key_values = (row / 100000 % 4294967296) as u32;
     let c = make_case(0x8c02, key_values, 8, 8, 32, (row % 100000) as usize, 8200);
-    print_case(b"case", c, bytes);
+    print_case(printer, b"case", c, bytes)
 }
 
-fn print_side_cases(bytes: &mut [u8]) {
-    print_cases(b"case", &tables::SIDE_CASES, bytes);
+fn print_side_cases(printer: &mut impl Write, bytes: &mut [u8]) -> io::Result<()> {
+    print_cases(printer, b"case", &tables::SIDE_CASES, bytes)
 }
 
-fn print_long_sides(bytes: &mut [u8]) {
-    print_cases(b"case", &tables::LONG_SIDES, bytes);
+fn print_long_sides(printer: &mut impl Write, bytes: &mut [u8]) -> io::Result<()> {
+    print_cases(printer, b"case", &tables::LONG_SIDES, bytes)
 }
 
-fn print_room_cases(bytes: &mut [u8]) {
-    print_cases(b"case", &tables::ROOM_CASES, bytes);
+fn print_room_cases(printer: &mut impl Write, bytes: &mut [u8]) -> io::Result<()> {
+    print_cases(printer, b"case", &tables::ROOM_CASES, bytes)
 }
 
-fn print_tiny(bytes: &mut [u8]) {
-    print_cases(b"tiny", &tables::TINY, bytes);
+fn print_tiny(printer: &mut impl Write, bytes: &mut [u8]) -> io::Result<()> {
+    print_cases(printer, b"tiny", &tables::TINY, bytes)
 }
 
-fn print_cases(name: &[u8], listed: &[[u32; 7]], bytes: &mut [u8]) {
-    for i in 0..listed.len() {
-        print_case(name, case_of(listed[i]), bytes);
+fn print_cases(
+    printer: &mut impl Write,
+    name: &[u8],
+    listed: &[[u32; 7]],
+    bytes: &mut [u8],
+) -> io::Result<()> {
+    for row in listed {
+        print_case(printer, name, case_of(*row), bytes)?;
     }
+    Ok(())
 }
 
-fn print_case(name: &[u8], c: Case, bytes: &mut [u8]) {
+fn print_case(printer: &mut impl Write, name: &[u8], c: Case, bytes: &mut [u8]) -> io::Result<()> {
     lay(bytes, c);
-    io::write_all(1, name);
-    print_chosen(c);
-    print_answers(bytes, c.end, c.room);
+    printer.write_all(name)?;
+    print_chosen(printer, c)?;
+    print_answers(printer, bytes, c.end, c.room)
 }
 
 // What is chosen of a file.
-fn print_chosen(c: Case) {
-    io::write_all(1, b" ");
-    io::print_hex(1, c.format as u64, 4);
-    print_name(b", key/values", c.key_values as u64);
-    print_name(b",", c.width as u64);
-    print_name(b" x", c.height as u64);
-    print_name(b", size", c.size as u64);
-    print_name(b", end", c.end as u64);
-    print_name(b", room", c.room as u64);
+fn print_chosen(printer: &mut impl Write, c: Case) -> io::Result<()> {
+    let format = c.format;
+    write!(printer, " {format:04x}")?;
+    print_name(printer, b", key/values", c.key_values as u64)?;
+    print_name(printer, b",", c.width as u64)?;
+    print_name(printer, b" x", c.height as u64)?;
+    print_name(printer, b", size", c.size as u64)?;
+    print_name(printer, b", end", c.end as u64)?;
+    print_name(printer, b", room", c.room as u64)
 }
 
 // Every two refusals at once: the row's two digits to the base of fifteen are their places in the order. Of each two, one row of the two is taken.
-fn print_faults(row: u64, bytes: &mut [u8]) {
+fn print_faults(printer: &mut impl Write, row: u64, bytes: &mut [u8]) -> io::Result<()> {
     let i = (row / 15 % 15) as usize;
     let j = (row % 15) as usize;
     let t = tables::ORDER;
     if i <= j {
-        print_two(bytes, t[i], t[j]);
+        print_two(printer, bytes, t[i], t[j])?;
     }
+    Ok(())
 }
 
 // A plain file with two faults. The one that is later in the order comes in first.
-fn print_two(bytes: &mut [u8], first: u64, second: u64) {
+fn print_two(
+    printer: &mut impl Write,
+    bytes: &mut [u8],
+    first: u64,
+    second: u64,
+) -> io::Result<()> {
     let c = faulty(first, second);
     lay(bytes, c);
     bring(bytes, second);
     bring(bytes, first);
-    print_name(b"faults", first);
-    print_name(b" and", second);
-    print_answers(bytes, c.end, c.room);
+    print_name(printer, b"faults", first)?;
+    print_name(printer, b" and", second)?;
+    print_answers(printer, bytes, c.end, c.room)
 }
 
 fn make_case(
@@ -324,19 +346,24 @@ fn lay(bytes: &mut [u8], c: Case) {
 }
 
 // What the calls answer for the first `end` bytes of a file, and so many words.
-fn print_answers(bytes: &[u8], end: usize, room: usize) {
-    print_header(bytes, end);
-    io::write_all(1, b"; picture");
-    print_decoded(bytes, end, room, ChannelOrder::BlueFirst);
-    io::write_all(1, b"; program ");
-    print_converted(bytes, end);
-    io::write_all(1, b"  red first: picture");
-    print_decoded(bytes, end, room, ChannelOrder::RedFirst);
-    io::write_all(1, b"\n");
+fn print_answers(
+    printer: &mut impl Write,
+    bytes: &[u8],
+    end: usize,
+    room: usize,
+) -> io::Result<()> {
+    print_header(printer, bytes, end)?;
+    printer.write_all(b"; picture")?;
+    print_decoded(printer, bytes, end, room, ChannelOrder::BlueFirst)?;
+    printer.write_all(b"; program ")?;
+    print_converted(printer, bytes, end)?;
+    printer.write_all(b"  red first: picture")?;
+    print_decoded(printer, bytes, end, room, ChannelOrder::RedFirst)?;
+    printer.write_all(b"\n")
 }
 
 // What the header's reader answers.
-fn print_header(bytes: &[u8], end: usize) {
+fn print_header(printer: &mut impl Write, bytes: &[u8], end: usize) -> io::Result<()> {
     let n = facts::least(end, bytes.len());
     let header = ktx::read_header(&bytes[..n]);
     match header {
@@ -347,76 +374,113 @@ fn print_header(bytes: &[u8], end: usize) {
             payload,
             size,
         } => {
-            print_sides(width, height, is2bpp);
-            print_name(b", data at", payload as u64);
-            print_name(b", size", size as u64);
+            print_sides(printer, width, height, is2bpp)?;
+            print_name(printer, b", data at", payload as u64)?;
+            print_name(printer, b", size", size as u64)
         }
         Header::Refused(f) => {
-            print_name(b": header refused", ktx::header_refusal_number(f));
+            print_name(printer, b": header refused", ktx::header_refusal_number(f))
         }
     }
 }
 
 // The sides and the depth that a header says.
-fn print_sides(width: usize, height: usize, is2bpp: bool) {
-    print_name(b": header", width as u64);
-    print_name(b" x", height as u64);
+fn print_sides(
+    printer: &mut impl Write,
+    width: usize,
+    height: usize,
+    is2bpp: bool,
+) -> io::Result<()> {
+    print_name(printer, b": header", width as u64)?;
+    print_name(printer, b" x", height as u64)?;
     if is2bpp {
-        io::write_all(1, b", 2bpp");
+        printer.write_all(b", 2bpp")
     } else {
-        io::write_all(1, b", 4bpp");
+        printer.write_all(b", 4bpp")
     }
 }
 
 // What decoding into so many words answers, of at most 131,072.
-fn print_decoded(bytes: &[u8], end: usize, room: usize, order: ChannelOrder) {
+fn print_decoded(
+    printer: &mut impl Write,
+    bytes: &[u8],
+    end: usize,
+    room: usize,
+    order: ChannelOrder,
+) -> io::Result<()> {
     let mut image = [0u32; 131072];
-    print_room(bytes, end, room, order, &mut image);
+    print_room(printer, bytes, end, room, order, &mut image)
 }
 
-fn print_room(bytes: &[u8], end: usize, room: usize, order: ChannelOrder, image: &mut [u32]) {
+fn print_room(
+    printer: &mut impl Write,
+    bytes: &[u8],
+    end: usize,
+    room: usize,
+    order: ChannelOrder,
+    image: &mut [u32],
+) -> io::Result<()> {
     let n = facts::least(end, bytes.len());
     let m = facts::least(room, image.len());
-    print_lent(&bytes[..n], order, &mut image[..m]);
+    print_lent(printer, &bytes[..n], order, &mut image[..m])
 }
 
 // The number of the refusal, 0 for none, and the sum over the lent words afterwards, which were 0.
-fn print_lent(file: &[u8], order: ChannelOrder, words: &mut [u32]) {
+fn print_lent(
+    printer: &mut impl Write,
+    file: &[u8],
+    order: ChannelOrder,
+    words: &mut [u32],
+) -> io::Result<()> {
     let decoded = ktx::decode_ktx(file, order, words);
-    print_name(b"", ktx::decoded_number(decoded));
-    print_name(b", sum", samples::sum_of_words(words));
+    print_name(printer, b"", ktx::decoded_number(decoded))?;
+    print_name(printer, b", sum", samples::sum_of_words(words))
 }
 
 // What is written for the first `end` bytes of a file.
-fn print_converted(bytes: &[u8], end: usize) {
+fn print_converted(printer: &mut impl Write, bytes: &[u8], end: usize) -> io::Result<()> {
     let mut image = [0u32; 131072];
     let mut out = [0u8; 524306];
-    let n = facts::least(end, bytes.len());
-    print_written(&bytes[..n], &mut image, &mut out);
+    print_into(printer, bytes, end, &mut image, &mut out)
 }
 
-fn print_written(file: &[u8], image: &mut [u32], out: &mut [u8])
+// The same, into arrays that are lent whole: where they are made, a proof would count them through.
+fn print_into(
+    printer: &mut impl Write,
+    bytes: &[u8],
+    end: usize,
+    image: &mut [u32; 131072],
+    out: &mut [u8; 524306],
+) -> io::Result<()> {
+    let n = facts::least(end, bytes.len());
+    print_written(printer, &bytes[..n], image, out)
+}
+
+fn print_written(
+    printer: &mut impl Write,
+    file: &[u8],
+    image: &mut [u32],
+    out: &mut [u8],
+) -> io::Result<()>
     requires { Room (length image.old) (length out.old) }
 {
     let r = convert::convert(file, image, out);
-    print_output(&out[..r]);
+    print_output(printer, &out[..r])
 }
 
 // A refusal's line as it is; of a picture, how many bytes and their checksum.
-fn print_output(bytes: &[u8]) {
+fn print_output(printer: &mut impl Write, bytes: &[u8]) -> io::Result<()> {
     if bytes.len() < 12 {
-        io::write_all(1, bytes);
+        printer.write_all(bytes)
     } else {
-        io::print_decimal(1, bytes.len() as u64);
-        io::write_all(1, b" bytes, sum ");
-        io::print_decimal(1, samples::sum_of_bytes(bytes));
-        io::write_all(1, b"\n");
+        let n = bytes.len();
+        let sum = samples::sum_of_bytes(bytes);
+        writeln!(printer, "{n} bytes, sum {sum}")
     }
 }
 
 // A name and a number of a line.
-fn print_name(name: &[u8], n: u64) {
-    io::write_all(1, name);
-    io::write_all(1, b" ");
-    io::print_decimal(1, n);
+fn print_name(printer: &mut impl Write, name: &[u8], n: u64) -> io::Result<()> {
+    printer.write_all(name)?;
+    write!(printer, " {n}")
 }

@@ -8,6 +8,8 @@ mod tables;
 use ktx::Header;
 use levels::{Described, Level};
 use pixel::ChannelOrder;
+use std::io;
+use std::io::{BufWriter, Write};
 
 // What is chosen of a file: its kind and depth, the sides, how many levels the header says, how many bytes are skipped before them, and in a
 // KTX file the level whose size word is another, and that word.
@@ -31,57 +33,66 @@ enum Run {
     Flags,
 }
 
-fn main() {
+fn main(rt: HostRuntime) -> io::Result<()> {
+    let mut printer = BufWriter::new(rt.alloc(), io::writer(&rt))?;
     let mut bytes = [0u8; 6000];
-    print_all(&mut bytes);
+    print_all(&mut printer, &mut bytes)?;
+    printer.flush()
 }
 
 // Each list of files is lent by a function of its own: one that holds many takes long to prove.
-fn print_all(bytes: &mut [u8]) {
-    print_files(bytes);
-    print_counts(bytes);
-    print_sides(bytes);
-    print_words(bytes);
-    print_run(Run::PvrPairs, 225, bytes);
-    print_run(Run::KtxPairs, 225, bytes);
-    print_run(Run::Flags, 24, bytes);
-    print_differing(bytes);
+fn print_all(printer: &mut impl Write, bytes: &mut [u8]) -> io::Result<()> {
+    print_files(printer, bytes)?;
+    print_counts(printer, bytes)?;
+    print_sides(printer, bytes)?;
+    print_words(printer, bytes)?;
+    print_run(printer, Run::PvrPairs, 225, bytes)?;
+    print_run(printer, Run::KtxPairs, 225, bytes)?;
+    print_run(printer, Run::Flags, 24, bytes)?;
+    print_differing(printer, bytes)
 }
 
-fn print_files(bytes: &mut [u8]) {
-    print_plates(&tables::FILES, bytes);
+fn print_files(printer: &mut impl Write, bytes: &mut [u8]) -> io::Result<()> {
+    print_plates(printer, &tables::FILES, bytes)
 }
 
-fn print_counts(bytes: &mut [u8]) {
-    print_plates(&tables::COUNTS, bytes);
+fn print_counts(printer: &mut impl Write, bytes: &mut [u8]) -> io::Result<()> {
+    print_plates(printer, &tables::COUNTS, bytes)
 }
 
-fn print_sides(bytes: &mut [u8]) {
-    print_plates(&tables::SIDES, bytes);
+fn print_sides(printer: &mut impl Write, bytes: &mut [u8]) -> io::Result<()> {
+    print_plates(printer, &tables::SIDES, bytes)
 }
 
-fn print_words(bytes: &mut [u8]) {
-    print_plates(&tables::WORDS, bytes);
+fn print_words(printer: &mut impl Write, bytes: &mut [u8]) -> io::Result<()> {
+    print_plates(printer, &tables::WORDS, bytes)
 }
 
-fn print_plates(listed: &[[u32; 8]], bytes: &mut [u8]) {
-    for i in 0..listed.len() {
-        print_kinds(listed[i], bytes);
+fn print_plates(printer: &mut impl Write, listed: &[[u32; 8]], bytes: &mut [u8]) -> io::Result<()> {
+    for row in listed {
+        print_kinds(printer, *row, bytes)?;
     }
+    Ok(())
 }
 
 // A row of the tables as a file of both kinds.
-fn print_kinds(row: [u32; 8], bytes: &mut [u8]) {
-    print_depths(row, false, bytes);
-    print_depths(row, true, bytes);
+fn print_kinds(printer: &mut impl Write, row: [u32; 8], bytes: &mut [u8]) -> io::Result<()> {
+    print_depths(printer, row, false, bytes)?;
+    print_depths(printer, row, true, bytes)
 }
 
 // At both depths. Only a KTX file has a wrong size word.
-fn print_depths(row: [u32; 8], ktx: bool, bytes: &mut [u8]) {
+fn print_depths(
+    printer: &mut impl Write,
+    row: [u32; 8],
+    ktx: bool,
+    bytes: &mut [u8],
+) -> io::Result<()> {
     if ktx || row[4] == 99 {
-        print_file(case_of(row, ktx, false), row[6], row[7], bytes);
-        print_file(case_of(row, ktx, true), row[6], row[7], bytes);
+        print_file(printer, case_of(row, ktx, false), row[6], row[7], bytes)?;
+        print_file(printer, case_of(row, ktx, true), row[6], row[7], bytes)?;
     }
+    Ok(())
 }
 
 fn case_of(row: [u32; 8], ktx: bool, is2bpp: bool) -> Case {
@@ -98,17 +109,30 @@ fn case_of(row: [u32; 8], ktx: bool, is2bpp: bool) -> Case {
 }
 
 // The asked levels of a file.
-fn print_file(c: Case, from: u32, to: u32, bytes: &mut [u8]) {
+fn print_file(
+    printer: &mut impl Write,
+    c: Case,
+    from: u32,
+    to: u32,
+    bytes: &mut [u8],
+) -> io::Result<()> {
     lay(bytes, c);
-    print_asked(c, from, to, bytes);
+    print_asked(printer, c, from, to, bytes)
 }
 
-fn print_asked(c: Case, from: u32, to: u32, bytes: &[u8]) {
+fn print_asked(
+    printer: &mut impl Write,
+    c: Case,
+    from: u32,
+    to: u32,
+    bytes: &[u8],
+) -> io::Result<()> {
     for place in 0..22u32 {
         if from <= place && place < to {
-            print_level(c, level_of(place), bytes);
+            print_level(printer, c, level_of(place), bytes)?;
         }
     }
+    Ok(())
 }
 
 // The level that is asked at a place: its number, or behind these a large one.
@@ -122,67 +146,79 @@ fn level_of(place: u32) -> usize {
     }
 }
 
-fn print_level(c: Case, k: usize, bytes: &[u8]) {
-    print_case(c);
-    print_name(b", level", k as u64);
-    print_described(bytes, 6000, k);
-    print_decoded(bytes, k, ChannelOrder::BlueFirst);
-    io::write_all(1, b"  red first");
-    print_decoded(bytes, k, ChannelOrder::RedFirst);
+fn print_level(printer: &mut impl Write, c: Case, k: usize, bytes: &[u8]) -> io::Result<()> {
+    print_case(printer, c)?;
+    print_name(printer, b", level", k as u64)?;
+    print_described(printer, bytes, 6000, k)?;
+    print_decoded(printer, bytes, k, ChannelOrder::BlueFirst)?;
+    printer.write_all(b"  red first")?;
+    print_decoded(printer, bytes, k, ChannelOrder::RedFirst)
 }
 
 // A level of a whole file, and where it has one, at its edges.
-fn print_decoded(bytes: &[u8], k: usize, order: ChannelOrder) {
-    print_tried(bytes, 6000, k, 6000, order);
+fn print_decoded(
+    printer: &mut impl Write,
+    bytes: &[u8],
+    k: usize,
+    order: ChannelOrder,
+) -> io::Result<()> {
+    print_tried(printer, bytes, 6000, k, 6000, order)?;
     let described = levels::read_level(bytes, k);
     if let Described::Level(level) = described {
-        print_edges(bytes, k, level, order);
+        print_edges(printer, bytes, k, level, order)?;
     }
-    io::write_all(1, b"\n");
+    printer.write_all(b"\n")
 }
 
 // What is chosen of a file.
-fn print_case(c: Case) {
-    print_kind(c.ktx);
-    print_depth(c.is2bpp);
-    print_name(b"", c.width as u64);
-    print_name(b" x", c.height as u64);
-    print_name(b", levels", c.levels as u64);
-    print_name(b", skipped", c.skipped as u64);
+fn print_case(printer: &mut impl Write, c: Case) -> io::Result<()> {
+    print_kind(printer, c.ktx)?;
+    print_depth(printer, c.is2bpp)?;
+    print_name(printer, b"", c.width as u64)?;
+    print_name(printer, b" x", c.height as u64)?;
+    print_name(printer, b", levels", c.levels as u64)?;
+    print_name(printer, b", skipped", c.skipped as u64)?;
     if c.wrong != 99 {
-        print_name(b", word", c.wrong as u64);
-        print_name(b" is", c.word as u64);
+        print_name(printer, b", word", c.wrong as u64)?;
+        print_name(printer, b" is", c.word as u64)?;
     }
+    Ok(())
 }
 
-fn print_kind(ktx: bool) {
+fn print_kind(printer: &mut impl Write, ktx: bool) -> io::Result<()> {
     if ktx {
-        io::write_all(1, b"ktx");
+        printer.write_all(b"ktx")
     } else {
-        io::write_all(1, b"pvr");
+        printer.write_all(b"pvr")
     }
 }
 
-fn print_depth(is2bpp: bool) {
+fn print_depth(printer: &mut impl Write, is2bpp: bool) -> io::Result<()> {
     if is2bpp {
-        io::write_all(1, b" 2bpp");
+        printer.write_all(b" 2bpp")
     } else {
-        io::write_all(1, b" 4bpp");
+        printer.write_all(b" 4bpp")
     }
 }
 
 // A level with its bytes and words and no more, with a word less, with a byte less, and cut behind, in and before its size word. No level
 // reaches as far as these bounds.
-fn print_edges(bytes: &[u8], k: usize, level: Level, order: ChannelOrder) {
+fn print_edges(
+    printer: &mut impl Write,
+    bytes: &[u8],
+    k: usize,
+    level: Level,
+    order: ChannelOrder,
+) -> io::Result<()> {
     let start = facts::least(level.start, 1000000000000);
     let end = start + facts::least(level.need, 1000000000000);
     let room = product(level.width, level.height);
-    print_tried(bytes, end, k, room, order);
-    print_tried(bytes, end, k, less(room, 1), order);
-    print_tried(bytes, less(end, 1), k, room, order);
-    print_tried(bytes, start, k, room, order);
-    print_tried(bytes, less(start, 2), k, room, order);
-    print_tried(bytes, less(start, 4), k, room, order);
+    print_tried(printer, bytes, end, k, room, order)?;
+    print_tried(printer, bytes, end, k, less(room, 1), order)?;
+    print_tried(printer, bytes, less(end, 1), k, room, order)?;
+    print_tried(printer, bytes, start, k, room, order)?;
+    print_tried(printer, bytes, less(start, 2), k, room, order)?;
+    print_tried(printer, bytes, less(start, 4), k, room, order)
 }
 
 // The product of two numbers, of each at most 65,536.
@@ -195,23 +231,24 @@ fn less(n: usize, by: usize) -> usize {
 }
 
 // The rows below n of a run, one after another.
-fn print_run(run: Run, n: u64, bytes: &mut [u8]) {
+fn print_run(printer: &mut impl Write, run: Run, n: u64, bytes: &mut [u8]) -> io::Result<()> {
     for row in 0..n {
-        print_row(run, row, bytes);
+        print_row(printer, run, row, bytes)?;
     }
+    Ok(())
 }
 
-fn print_row(run: Run, row: u64, bytes: &mut [u8]) {
+fn print_row(printer: &mut impl Write, run: Run, row: u64, bytes: &mut [u8]) -> io::Result<()> {
     match run {
-        Run::PvrPairs => print_pair(false, row, bytes),
-        Run::KtxPairs => print_pair(true, row, bytes),
-        Run::Flags => print_flags(row, bytes),
+        Run::PvrPairs => print_pair(printer, false, row, bytes),
+        Run::KtxPairs => print_pair(printer, true, row, bytes),
+        Run::Flags => print_flags(printer, row, bytes),
     }
 }
 
 // Every two refusals of an order at once: the row's two digits to the base of fifteen are their places in it. Of each two, one row of the two
 // is taken.
-fn print_pair(ktx: bool, row: u64, bytes: &mut [u8]) {
+fn print_pair(printer: &mut impl Write, ktx: bool, row: u64, bytes: &mut [u8]) -> io::Result<()> {
     let i = (row / 15 % 15) as usize;
     let j = (row % 15) as usize;
     let t = if ktx {
@@ -220,25 +257,32 @@ fn print_pair(ktx: bool, row: u64, bytes: &mut [u8]) {
         tables::PVR_ORDER
     };
     if i <= j {
-        print_two(ktx, t[i], t[j], bytes);
+        print_two(printer, ktx, t[i], t[j], bytes)?;
     }
+    Ok(())
 }
 
 // A file with two faults, of which level 1 is asked. The one that is later in the order comes in first.
-fn print_two(ktx: bool, first: u64, second: u64, bytes: &mut [u8]) {
+fn print_two(
+    printer: &mut impl Write,
+    ktx: bool,
+    first: u64,
+    second: u64,
+    bytes: &mut [u8],
+) -> io::Result<()> {
     let c = faulty(ktx, first, second);
     lay(bytes, c);
     bring(bytes, second);
     bring(bytes, first);
-    print_kind(ktx);
-    print_name(b" faults", first);
-    print_name(b" and", second);
+    print_kind(printer, ktx)?;
+    print_name(printer, b" faults", first)?;
+    print_name(printer, b" and", second)?;
     let k = if first == 20 && second == 19 { 33 } else { 1 };
     let room = if either(first, second, 4) { 0 } else { 6000 };
     let end = end_with(first, second, c);
-    print_answers(bytes, end, k, room);
-    io::write_all(1, b"\n");
-    print_red_first(bytes, end, k, room);
+    print_answers(printer, bytes, end, k, room)?;
+    printer.write_all(b"\n")?;
+    print_red_first(printer, bytes, end, k, room)
 }
 
 // A plate of 8 by 64 texels at 4bpp, with what two refusals are given for, as far as it is chosen. With 2 the rows are 65,600, of which level 1
@@ -333,56 +377,67 @@ fn bring(bytes: &mut [u8], fault: u64) {
 
 // Flags of a PVR file: alone, with a wrong first byte before them, with a wrong format after them, and with both. The row has a bit for each of the
 // two, and above them the flags' place in the list.
-fn print_flags(row: u64, bytes: &mut [u8]) {
+fn print_flags(printer: &mut impl Write, row: u64, bytes: &mut [u8]) -> io::Result<()> {
     let i = (row / 4 % 6) as usize;
     let t = tables::FLAGS;
-    print_flagged(t[i], row % 4, bytes);
+    print_flagged(printer, t[i], row % 4, bytes)
 }
 
 // The plate that two refusals are brought into, with nothing wrong but what is said. Level 1 is asked.
-fn print_flagged(flags: u32, faults: u64, bytes: &mut [u8]) {
+fn print_flagged(
+    printer: &mut impl Write,
+    flags: u32,
+    faults: u64,
+    bytes: &mut [u8],
+) -> io::Result<()> {
     let c = faulty(false, 0, 0);
     lay(bytes, c);
     samples::set_u32(bytes, 4, flags);
-    print_kind(false);
-    print_name(b" flags", flags as u64);
+    print_kind(printer, false)?;
+    print_name(printer, b" flags", flags as u64)?;
     if faults != 0 {
-        io::write_all(1, b", faults");
+        printer.write_all(b", faults")?;
     }
-    bring_if(faults % 2, bytes, 12);
-    bring_if(faults / 2 % 2, bytes, 13);
-    print_answers(bytes, 6000, 1, 6000);
-    io::write_all(1, b"\n");
-    print_red_first(bytes, 6000, 1, 6000);
+    bring_if(printer, faults % 2, bytes, 12)?;
+    bring_if(printer, faults / 2 % 2, bytes, 13)?;
+    print_answers(printer, bytes, 6000, 1, 6000)?;
+    printer.write_all(b"\n")?;
+    print_red_first(printer, bytes, 6000, 1, 6000)
 }
 
 // Brings a fault in and names it, where its bit is 1.
-fn bring_if(bit: u64, bytes: &mut [u8], fault: u64) {
+fn bring_if(printer: &mut impl Write, bit: u64, bytes: &mut [u8], fault: u64) -> io::Result<()> {
     if bit == 1 {
         bring(bytes, fault);
-        print_name(b"", fault);
+        print_name(printer, b"", fault)?;
     }
+    Ok(())
 }
 
 // Files of which the level call and the program, or the KTX header's reader, say different things; and the same of the other kind.
-fn print_differing(bytes: &mut [u8]) {
-    print_calls([0, 8, 1, 0, 99, 0, 64, 0], true, bytes);
-    print_calls([0, 8, 1, 0, 99, 0, 52, 0], false, bytes);
-    print_calls([5, 5, 9, 0, 99, 0, 6000, 0], false, bytes);
-    print_calls([5, 5, 9, 0, 99, 0, 6000, 0], true, bytes);
+fn print_differing(printer: &mut impl Write, bytes: &mut [u8]) -> io::Result<()> {
+    print_calls(printer, [0, 8, 1, 0, 99, 0, 64, 0], true, bytes)?;
+    print_calls(printer, [0, 8, 1, 0, 99, 0, 52, 0], false, bytes)?;
+    print_calls(printer, [5, 5, 9, 0, 99, 0, 6000, 0], false, bytes)?;
+    print_calls(printer, [5, 5, 9, 0, 99, 0, 6000, 0], true, bytes)
 }
 
 // The first level by the level's calls, and what the others answer. The row's last number but one is where the file ends.
-fn print_calls(row: [u32; 8], ktx: bool, bytes: &mut [u8]) {
+fn print_calls(
+    printer: &mut impl Write,
+    row: [u32; 8],
+    ktx: bool,
+    bytes: &mut [u8],
+) -> io::Result<()> {
     let c = case_of(row, ktx, false);
     let end = row[6] as usize;
     lay(bytes, c);
-    print_case(c);
-    print_name(b", level", 0);
-    print_answers(bytes, end, 0, 6000);
-    print_header(bytes, end);
-    print_program(bytes, end);
-    print_red_first(bytes, end, 0, 6000);
+    print_case(printer, c)?;
+    print_name(printer, b", level", 0)?;
+    print_answers(printer, bytes, end, 0, 6000)?;
+    print_header(printer, bytes, end)?;
+    print_program(printer, bytes, end)?;
+    print_red_first(printer, bytes, end, 0, 6000)
 }
 
 // Lays a file, its levels' data by the rule of sample files.
@@ -464,52 +519,77 @@ fn half(side: usize) -> usize {
 }
 
 // What describing and decoding a level answer for the first `end` bytes of a file, and so many words.
-fn print_answers(bytes: &[u8], end: usize, k: usize, room: usize) {
-    print_described(bytes, end, k);
-    print_tried(bytes, end, k, room, ChannelOrder::BlueFirst);
+fn print_answers(
+    printer: &mut impl Write,
+    bytes: &[u8],
+    end: usize,
+    k: usize,
+    room: usize,
+) -> io::Result<()> {
+    print_described(printer, bytes, end, k)?;
+    print_tried(printer, bytes, end, k, room, ChannelOrder::BlueFirst)
 }
 
 // A line of what decoding it red first answers.
-fn print_red_first(bytes: &[u8], end: usize, k: usize, room: usize) {
-    io::write_all(1, b"  red first");
-    print_tried(bytes, end, k, room, ChannelOrder::RedFirst);
-    io::write_all(1, b"\n");
+fn print_red_first(
+    printer: &mut impl Write,
+    bytes: &[u8],
+    end: usize,
+    k: usize,
+    room: usize,
+) -> io::Result<()> {
+    printer.write_all(b"  red first")?;
+    print_tried(printer, bytes, end, k, room, ChannelOrder::RedFirst)?;
+    printer.write_all(b"\n")
 }
 
-fn print_described(bytes: &[u8], end: usize, k: usize) {
+fn print_described(printer: &mut impl Write, bytes: &[u8], end: usize, k: usize) -> io::Result<()> {
     let n = facts::least(end, bytes.len());
     let described = levels::read_level(&bytes[..n], k);
     match described {
-        Described::Level(level) => print_description(level),
-        Described::Refused(f) => print_name(b": refused", levels::refusal_number(f)),
+        Described::Level(level) => print_description(printer, level),
+        Described::Refused(f) => print_name(printer, b": refused", levels::refusal_number(f)),
     }
 }
 
-fn print_description(level: Level) {
-    print_name(b":", level.width as u64);
-    print_name(b" x", level.height as u64);
-    io::write_all(1, b",");
-    print_depth(level.is2bpp);
-    print_name(b",", level.need as u64);
-    print_name(b" bytes at", level.start as u64);
+fn print_description(printer: &mut impl Write, level: Level) -> io::Result<()> {
+    print_name(printer, b":", level.width as u64)?;
+    print_name(printer, b" x", level.height as u64)?;
+    printer.write_all(b",")?;
+    print_depth(printer, level.is2bpp)?;
+    print_name(printer, b",", level.need as u64)?;
+    print_name(printer, b" bytes at", level.start as u64)
 }
 
 // At most as many bytes and words as there are.
-fn print_tried(bytes: &[u8], end: usize, k: usize, room: usize, order: ChannelOrder) {
+fn print_tried(
+    printer: &mut impl Write,
+    bytes: &[u8],
+    end: usize,
+    k: usize,
+    room: usize,
+    order: ChannelOrder,
+) -> io::Result<()> {
     let mut image = [0u32; 6000];
     let n = facts::least(end, bytes.len());
     let m = facts::least(room, 6000);
-    print_name(b"; end", n as u64);
-    print_name(b", room", m as u64);
-    print_lent(&bytes[..n], k, order, &mut image[..m]);
+    print_name(printer, b"; end", n as u64)?;
+    print_name(printer, b", room", m as u64)?;
+    print_lent(printer, &bytes[..n], k, order, &mut image[..m])
 }
 
 // The numbers of both calls' refusals, 0 for none, and the sum over the lent words afterwards, which were 0.
-fn print_lent(file: &[u8], k: usize, order: ChannelOrder, words: &mut [u32]) {
-    print_name(b":", described_number(levels::read_level(file, k)));
+fn print_lent(
+    printer: &mut impl Write,
+    file: &[u8],
+    k: usize,
+    order: ChannelOrder,
+    words: &mut [u32],
+) -> io::Result<()> {
+    print_name(printer, b":", described_number(levels::read_level(file, k)))?;
     let decoded = levels::decode_level(file, k, order, words);
-    print_name(b"", levels::decoded_number(decoded));
-    print_name(b", sum", samples::sum_of_words(words));
+    print_name(printer, b"", levels::decoded_number(decoded))?;
+    print_name(printer, b", sum", samples::sum_of_words(words))
 }
 
 fn described_number(described: Described) -> u64 {
@@ -520,7 +600,7 @@ fn described_number(described: Described) -> u64 {
 }
 
 // What the KTX header's reader answers.
-fn print_header(bytes: &[u8], end: usize) {
+fn print_header(printer: &mut impl Write, bytes: &[u8], end: usize) -> io::Result<()> {
     let n = facts::least(end, bytes.len());
     let header = ktx::read_header(&bytes[..n]);
     match header {
@@ -531,28 +611,32 @@ fn print_header(bytes: &[u8], end: usize) {
             payload: _,
             size: _,
         } => {
-            print_name(b"; header", width as u64);
-            print_name(b" x", height as u64);
+            print_name(printer, b"; header", width as u64)?;
+            print_name(printer, b" x", height as u64)
         }
         Header::Refused(f) => {
-            print_name(b"; header refused", ktx::header_refusal_number(f));
+            print_name(printer, b"; header refused", ktx::header_refusal_number(f))
         }
     }
 }
 
 // How many bytes `plate` writes for the first `end` bytes of a file: the line of a refusal has 10 or 11, and the TGA of 5 by 5 texels 118.
-fn print_program(bytes: &[u8], end: usize) {
+fn print_program(printer: &mut impl Write, bytes: &[u8], end: usize) -> io::Result<()> {
     let mut image = [0u32; 131072];
     let mut out = [0u8; 524306];
     let n = facts::least(end, bytes.len());
-    let written = convert::plate_convert(&bytes[..n], &mut image, &mut out);
-    print_name(b"; program writes", written as u64);
-    io::write_all(1, b"\n");
+    let written = write_program(&bytes[..n], &mut image, &mut out);
+    print_name(printer, b"; program writes", written as u64)?;
+    printer.write_all(b"\n")
+}
+
+// The program's call, into arrays that are lent whole: where they are made, a proof would count them through.
+fn write_program(file: &[u8], image: &mut [u32; 131072], out: &mut [u8; 524306]) -> usize {
+    convert::plate_convert(file, image, out)
 }
 
 // A name and a number of a line.
-fn print_name(name: &[u8], n: u64) {
-    io::write_all(1, name);
-    io::write_all(1, b" ");
-    io::print_decimal(1, n);
+fn print_name(printer: &mut impl Write, name: &[u8], n: u64) -> io::Result<()> {
+    printer.write_all(name)?;
+    write!(printer, " {n}")
 }

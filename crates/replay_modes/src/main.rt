@@ -7,6 +7,8 @@ mod tables;
 
 use pixel::ChannelOrder;
 use pvrtc::{Decoded, GridMode, Picture, Texel};
+use std::io;
+use std::io::{BufWriter, Write};
 
 // A way to the words of a picture: the call that is told the depth, that with the depth in its name, the plain form, the row call for each row, the
 // texel call for each texel; or to the words of row y.
@@ -27,38 +29,46 @@ struct Answer {
     sum: u64,
 }
 
-fn main() {
-    let reached = print_sizes(false, 1);
-    print_sizes(true, reached);
-    print_red_corner(GridMode::Rust, ChannelOrder::BlueFirst);
-    print_red_corner(GridMode::Rust, ChannelOrder::RedFirst);
-    print_red_corner(GridMode::Stored, ChannelOrder::BlueFirst);
-    print_red_corner(GridMode::Stored, ChannelOrder::RedFirst);
-    print_one_colour(false);
-    print_one_colour(true);
-    print_calls();
+fn main(rt: HostRuntime) -> io::Result<()> {
+    let mut out = BufWriter::new(rt.alloc(), io::writer(&rt))?;
+    let reached = print_sizes(&mut out, false, 1)?;
+    print_sizes(&mut out, true, reached)?;
+    print_red_corner(&mut out, GridMode::Rust, ChannelOrder::BlueFirst)?;
+    print_red_corner(&mut out, GridMode::Rust, ChannelOrder::RedFirst)?;
+    print_red_corner(&mut out, GridMode::Stored, ChannelOrder::BlueFirst)?;
+    print_red_corner(&mut out, GridMode::Stored, ChannelOrder::RedFirst)?;
+    print_one_colour(&mut out, false)?;
+    print_one_colour(&mut out, true)?;
+    print_calls(&mut out)?;
+    out.flush()
 }
 
 // Each width with each height. As in `print_size`, the answer is the generator's state afterwards.
-fn print_sizes(is2bpp: bool, state: u64) -> u64 {
+fn print_sizes(out: &mut impl Write, is2bpp: bool, state: u64) -> io::Result<u64> {
     let mut reached = state;
     for i in 0..400usize {
-        reached = print_size(i % 20 + 1, i / 20 + 1, is2bpp, reached);
+        reached = print_size(out, i % 20 + 1, i / 20 + 1, is2bpp, reached)?;
     }
-    reached
+    Ok(reached)
 }
 
 // One size in both modes, on the same data and words: the same picture in the same order has the same sum.
-fn print_size(width: usize, height: usize, is2bpp: bool, state: u64) -> u64 {
+fn print_size(
+    out: &mut impl Write,
+    width: usize,
+    height: usize,
+    is2bpp: bool,
+    state: u64,
+) -> io::Result<u64> {
     let mut data = [0u8; 200];
     let reached = samples::draw_bytes(&mut data, state);
     let rust = blue_first(width, height, is2bpp, GridMode::Rust);
     let stored = blue_first(width, height, is2bpp, GridMode::Stored);
-    print_picture(rust, &data, reached);
-    print_picture(red_first(rust), &data, reached);
-    print_picture(stored, &data, reached);
-    print_picture(red_first(stored), &data, reached);
-    reached
+    print_picture(out, rust, &data, reached)?;
+    print_picture(out, red_first(rust), &data, reached)?;
+    print_picture(out, stored, &data, reached)?;
+    print_picture(out, red_first(stored), &data, reached)?;
+    Ok(reached)
 }
 
 // A picture in the Rust's order.
@@ -71,18 +81,28 @@ fn red_first(p: Picture) -> Picture {
 }
 
 // A picture each way, with as many bytes as it needs; then with a byte less.
-fn print_picture(p: Picture, data: &[u8], state: u64) {
+fn print_picture(out: &mut impl Write, p: Picture, data: &[u8], state: u64) -> io::Result<()> {
     let need = need_of(p);
     let told = answer_of(Way::Told, p, data, need, 409, state);
-    print_name(p, need);
-    print_answer(told);
-    print_same(b"; named", told, Way::Named, p, data, need, 409, state);
-    print_same(b", plain", told, Way::Plain, p, data, need, 409, state);
-    print_same(b", rows", told, Way::Rows, p, data, need, 409, state);
-    print_same(b", texels", told, Way::Texels, p, data, need, 409, state);
+    print_name(out, p, need)?;
+    print_answer(out, told)?;
+    print_same(out, b"; named", told, Way::Named, p, data, need, 409, state)?;
+    print_same(out, b", plain", told, Way::Plain, p, data, need, 409, state)?;
+    print_same(out, b", rows", told, Way::Rows, p, data, need, 409, state)?;
+    print_same(
+        out,
+        b", texels",
+        told,
+        Way::Texels,
+        p,
+        data,
+        need,
+        409,
+        state,
+    )?;
     let short = answer_of(Way::Told, p, data, less_one(need), 409, state);
-    print_part(b"; a byte less:", short.number);
-    io::write_all(1, b"\n");
+    print_part(out, b"; a byte less:", short.number)?;
+    out.write_all(b"\n")
 }
 
 // The bytes that a picture's grid needs, or 0 for a grid that no call takes.
@@ -99,19 +119,19 @@ fn less_one(n: usize) -> usize {
 }
 
 // The reds of the first row of the red corner.
-fn print_red_corner(mode: GridMode, order: ChannelOrder) {
+fn print_red_corner(out: &mut impl Write, mode: GridMode, order: ChannelOrder) -> io::Result<()> {
     let mut data = [0u8; 32];
     let mut words = [0u32; 16];
     samples::lay_file(&tables::RED_CORNER, &mut data);
     pvrtc::decode_pvrtc_4bpp(&data, 4, 4, &mut words, mode, order);
-    io::write_all(1, b"red corner, ");
-    print_mode(mode);
-    print_order(order);
-    print_part(b":", red_of(words[0], order));
-    print_part(b"", red_of(words[1], order));
-    print_part(b"", red_of(words[2], order));
-    print_part(b"", red_of(words[3], order));
-    io::write_all(1, b"\n");
+    out.write_all(b"red corner, ")?;
+    print_mode(out, mode)?;
+    print_order(out, order)?;
+    print_part(out, b":", red_of(words[0], order))?;
+    print_part(out, b"", red_of(words[1], order))?;
+    print_part(out, b"", red_of(words[2], order))?;
+    print_part(out, b"", red_of(words[3], order))?;
+    out.write_all(b"\n")
 }
 
 fn red_of(word: u32, order: ChannelOrder) -> u64 {
@@ -127,39 +147,40 @@ fn byte_of(word: u32, place: u64) -> u64 {
 }
 
 // The texel of one colour in each order.
-fn print_one_colour(is2bpp: bool) {
+fn print_one_colour(out: &mut impl Write, is2bpp: bool) -> io::Result<()> {
     let p = blue_first(1, 1, is2bpp, GridMode::Rust);
-    print_bytes(p);
-    print_bytes(red_first(p));
+    print_bytes(out, p)?;
+    print_bytes(out, red_first(p))
 }
 
 // The texel of one colour, byte by byte from the low one.
-fn print_bytes(p: Picture) {
+fn print_bytes(out: &mut impl Write, p: Picture) -> io::Result<()> {
     let mut data = [0u8; 8];
     let mut words = [0u32; 1];
     samples::lay_file(&tables::ONE_COLOUR, &mut data);
     decode(Way::Told, p, &data, &mut words);
-    io::write_all(1, b"one colour, ");
-    print_name(p, 8);
-    print_part(b":", byte_of(words[0], 0));
-    print_part(b"", byte_of(words[0], 1));
-    print_part(b"", byte_of(words[0], 2));
-    print_part(b"", byte_of(words[0], 3));
-    io::write_all(1, b"\n");
+    out.write_all(b"one colour, ")?;
+    print_name(out, p, 8)?;
+    print_part(out, b":", byte_of(words[0], 0))?;
+    print_part(out, b"", byte_of(words[0], 1))?;
+    print_part(out, b"", byte_of(words[0], 2))?;
+    print_part(out, b"", byte_of(words[0], 3))?;
+    out.write_all(b"\n")
 }
 
 // The listed calls. All get the same bytes and words, as far as they reach.
-fn print_calls() {
+fn print_calls(out: &mut impl Write) -> io::Result<()> {
     let mut data = [0u8; 262144];
     samples::draw_bytes(&mut data, 1);
-    print_needs(&tables::NEEDS, &data);
-    print_others(&tables::OTHERS, &data);
+    print_needs(out, &tables::NEEDS, &data)?;
+    print_others(out, &tables::OTHERS, &data)
 }
 
-fn print_needs(rows: &[u64], data: &[u8]) {
-    for i in 0..rows.len() {
-        print_four(call_of(rows[i]), data);
+fn print_needs(out: &mut impl Write, rows: &[u64], data: &[u8]) -> io::Result<()> {
+    for row in rows {
+        print_four(out, call_of(*row), data)?;
     }
+    Ok(())
 }
 
 // The call of such a row: for the last row and texel, with as many words as there are.
@@ -177,43 +198,50 @@ fn call_of(row: u64) -> [usize; 6] {
     ]
 }
 
-fn print_others(calls: &[[usize; 6]], data: &[u8]) {
-    for i in 0..calls.len() {
-        print_four(calls[i], data);
+fn print_others(out: &mut impl Write, calls: &[[usize; 6]], data: &[u8]) -> io::Result<()> {
+    for call in calls {
+        print_four(out, *call, data)?;
     }
+    Ok(())
 }
 
 // A listed call at both depths, and in both modes.
-fn print_four(c: [usize; 6], data: &[u8]) {
-    print_call(c, false, GridMode::Rust, data);
-    print_call(c, false, GridMode::Stored, data);
-    print_call(c, true, GridMode::Rust, data);
-    print_call(c, true, GridMode::Stored, data);
+fn print_four(out: &mut impl Write, c: [usize; 6], data: &[u8]) -> io::Result<()> {
+    print_call(out, c, false, GridMode::Rust, data)?;
+    print_call(out, c, false, GridMode::Stored, data)?;
+    print_call(out, c, true, GridMode::Rust, data)?;
+    print_call(out, c, true, GridMode::Stored, data)
 }
 
 // A listed call in each order.
-fn print_call(c: [usize; 6], is2bpp: bool, mode: GridMode, data: &[u8]) {
+fn print_call(
+    out: &mut impl Write,
+    c: [usize; 6],
+    is2bpp: bool,
+    mode: GridMode,
+    data: &[u8],
+) -> io::Result<()> {
     let p = blue_first(c[2], c[3], is2bpp, mode);
-    print_answers(c, p, data);
-    print_answers(c, red_first(p), data);
+    print_answers(out, c, p, data)?;
+    print_answers(out, c, red_first(p), data)
 }
 
 // The picture by the block call and by its other forms; then a row, and a texel of it.
-fn print_answers(c: [usize; 6], p: Picture, data: &[u8]) {
+fn print_answers(out: &mut impl Write, c: [usize; 6], p: Picture, data: &[u8]) -> io::Result<()> {
     let bytes = c[0];
     let words = c[1];
     let y = c[5];
     let told = answer_of(Way::Told, p, data, bytes, words, 2);
-    io::write_all(1, b"call ");
-    print_name(p, bytes);
-    print_part(b", words", words as u64);
-    print_answer(told);
-    print_same(b"; named", told, Way::Named, p, data, bytes, words, 2);
-    print_same(b", plain", told, Way::Plain, p, data, bytes, words, 2);
-    print_part(b"; row", y as u64);
-    print_answer(answer_of(Way::Row(y), p, data, bytes, words, 2));
-    print_texel(p, data, bytes, c[4], y);
-    io::write_all(1, b"\n");
+    out.write_all(b"call ")?;
+    print_name(out, p, bytes)?;
+    print_part(out, b", words", words as u64)?;
+    print_answer(out, told)?;
+    print_same(out, b"; named", told, Way::Named, p, data, bytes, words, 2)?;
+    print_same(out, b", plain", told, Way::Plain, p, data, bytes, words, 2)?;
+    print_part(out, b"; row", y as u64)?;
+    print_answer(out, answer_of(Way::Row(y), p, data, bytes, words, 2))?;
+    print_texel(out, p, data, bytes, c[4], y)?;
+    out.write_all(b"\n")
 }
 
 // What a way answers, where so many bytes of the data are lent, and so many drawn words, of which there are 4,105.
@@ -317,49 +345,44 @@ fn number_of(decoded: Decoded) -> u64 {
 }
 
 // The depth, the mode, the size, the order and how many bytes are lent.
-fn print_name(p: Picture, bytes: usize) {
+fn print_name(out: &mut impl Write, p: Picture, bytes: usize) -> io::Result<()> {
     let mode = p.mode;
     let order = p.order;
     if p.is2bpp {
-        io::write_all(1, b"2bpp ");
+        out.write_all(b"2bpp ")?;
     } else {
-        io::write_all(1, b"4bpp ");
+        out.write_all(b"4bpp ")?;
     }
-    print_mode(mode);
-    print_part(b"", p.width as u64);
-    print_part(b" x", p.height as u64);
-    print_order(order);
-    print_part(b", bytes", bytes as u64);
+    print_mode(out, mode)?;
+    print_part(out, b"", p.width as u64)?;
+    print_part(out, b" x", p.height as u64)?;
+    print_order(out, order)?;
+    print_part(out, b", bytes", bytes as u64)
 }
 
-fn print_mode(mode: GridMode) {
+fn print_mode(out: &mut impl Write, mode: GridMode) -> io::Result<()> {
     match mode {
-        GridMode::Rust => {
-            io::write_all(1, b"Rust");
-        }
-        GridMode::Stored => {
-            io::write_all(1, b"stored");
-        }
+        GridMode::Rust => { out.write_all(b"Rust") }
+        GridMode::Stored => { out.write_all(b"stored") }
     }
 }
 
 // Only red first is said.
-fn print_order(order: ChannelOrder) {
+fn print_order(out: &mut impl Write, order: ChannelOrder) -> io::Result<()> {
     match order {
-        ChannelOrder::BlueFirst => {}
-        ChannelOrder::RedFirst => {
-            io::write_all(1, b", red first");
-        }
+        ChannelOrder::BlueFirst => Ok(()),
+        ChannelOrder::RedFirst => { out.write_all(b", red first") }
     }
 }
 
-fn print_answer(a: Answer) {
-    print_part(b":", a.number);
-    print_part(b", sum", a.sum);
+fn print_answer(out: &mut impl Write, a: Answer) -> io::Result<()> {
+    print_part(out, b":", a.number)?;
+    print_part(out, b", sum", a.sum)
 }
 
 // Whether another way answers the same, on the same bytes and words.
 fn print_same(
+    out: &mut impl Write,
     name: &[u8],
     told: Answer,
     way: Way,
@@ -368,30 +391,36 @@ fn print_same(
     bytes: usize,
     words: usize,
     state: u64,
-) {
+) -> io::Result<()> {
     let other = answer_of(way, p, data, bytes, words, state);
-    io::write_all(1, name);
+    out.write_all(name)?;
     if told.number == other.number && told.sum == other.sum {
-        io::write_all(1, b" same");
+        out.write_all(b" same")
     } else {
-        io::write_all(1, b" differs");
+        out.write_all(b" differs")
     }
 }
 
 // What the texel call answers on the first so many bytes.
-fn print_texel(p: Picture, data: &[u8], bytes: usize, x: usize, y: usize) {
+fn print_texel(
+    out: &mut impl Write,
+    p: Picture,
+    data: &[u8],
+    bytes: usize,
+    x: usize,
+    y: usize,
+) -> io::Result<()> {
     let n = facts::least(bytes, data.len());
     let texel = pvrtc::decode_texel(&data[..n], p, x, y);
-    print_part(b"; texel", x as u64);
+    print_part(out, b"; texel", x as u64)?;
     match texel {
-        Texel::Word(word) => print_part(b": word", word as u64),
-        Texel::Refused(f) => print_part(b": refused", pvrtc::refusal_number(f)),
+        Texel::Word(word) => print_part(out, b": word", word as u64),
+        Texel::Refused(f) => print_part(out, b": refused", pvrtc::refusal_number(f)),
     }
 }
 
 // A name and a number of a line.
-fn print_part(name: &[u8], n: u64) {
-    io::write_all(1, name);
-    io::write_all(1, b" ");
-    io::print_decimal(1, n);
+fn print_part(out: &mut impl Write, name: &[u8], n: u64) -> io::Result<()> {
+    out.write_all(name)?;
+    write!(out, " {n}")
 }

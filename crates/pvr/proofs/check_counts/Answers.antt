@@ -36,12 +36,9 @@ returns-then-u32_at-ne1-3 c =
 past-faces : (k : After-u32_at-4) {n : ℕ} → let file = k.args.file.now in
     n ≡ first_of (check (no_level file) 17 ∷ []) → n ≡ first_of (count_checks file)
 past-faces k e =
-    let faces = k in
-    let surfaces = faces in
-    let depth = surfaces in
-    holds_later _ _ _ (one depth.u32_at.ensures.0 depth.if-u32_at-ne1.false)
-    (holds_later _ _ _ (one surfaces.u32_at-2.ensures.0 surfaces.if-u32_at-ne1-2.false)
-    (holds_later _ _ _ (one faces.u32_at-3.ensures.0 faces.if-u32_at-ne1-3.false) e))
+    holds_later _ _ _ (one k.u32_at.ensures.0 k.if-u32_at-ne1.false)
+    (holds_later _ _ _ (one k.u32_at-2.ensures.0 k.if-u32_at-ne1-2.false)
+    (holds_later _ _ _ (one k.u32_at-3.ensures.0 k.if-u32_at-ne1-3.false) e))
 
 pub returns-then-u32_at-eq0 : goal.returns-then-u32_at-eq0
 returns-then-u32_at-eq0 c =

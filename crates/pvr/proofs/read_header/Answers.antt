@@ -8,7 +8,7 @@ use lib.ListN.{length}
 use borrow.Author.Tests.{lt-ltb, le-ltb}
 use Rattle.files.specs.Fields.{starts_with}
 use Rattle.facts.specs.Checks.{check, first_of}
-use Rattle.pvr.specs.Header.{version, known_flags, flags_field, unknown_flags, unknown_format, count_checks, header_refusal}
+use Rattle.pvr.specs.Header.{version, known_flags, flags_field, pixel_format, unknown_flags, unknown_format, count_checks, header_refusal}
 use Rattle.pvr.specs.Inner.{counts_number}
 use Rattle.pvr.proofs.Answers.{by-refusal, by-plate}
 use Rattle.facts.proofs.Order.{holds-here, holds_later}
@@ -32,11 +32,12 @@ asked : (k : After-are_known_flags) → known_flags (flags_field k.args.file.now
 asked k = ap known_flags (sym k.u32_at.ensures.0) ∙ sym k.are_known_flags.ensures
 
 -- what the counts say, past all that comes before them
-counted : (k : After-check_counts-counts) {n : ℕ} → n ≡ counts_number k.check_counts-counts.result → n ≡ header_refusal k.args.file.now
-counted k e =
+counted : (k : After-check_counts-counts) {n : ℕ} → unknown_format k.args.file.now ≡ false → n ≡ counts_number k.check_counts-counts.result
+    → n ≡ header_refusal k.args.file.now
+counted k low e =
     past-format k.args.file.now k.if-file-lt52.false (sym k.starts_with.ensures ∙ k.if-not-starts_with.false)
     (ap known_flags (sym k.u32_at.ensures.0) ∙ sym k.are_known_flags.ensures ∙ k.if-not-are_known_flags.false)
-    (le-ltb 3 _ (rw k.u64_at-format.ensures at k.if-format-gt3.false))
+    low
     (e ∙ k.check_counts-counts.ensures)
 
 pub returns-then-file-lt52 : goal.returns-then-file-lt52
@@ -64,13 +65,16 @@ returns-then-format-gt3 c =
     (holds-here _ _ _ (lt-ltb 3 _ (rw c.u64_at-format.ensures at c.if-format-gt3.true))))
 
 pub returns-in-Refused : goal.returns-in-Refused
-returns-in-Refused c = by-refusal (counted (goal.at.returns-in-Refused c).After-check_counts-counts (sym (ap counts_number c.in-Refused.is)))
+returns-in-Refused c =
+    let low = le-ltb 3 _ (rw c.u64_at-format.ensures at c.if-format-gt3.false) in
+    by-refusal (counted (goal.at.returns-in-Refused c).After-check_counts-counts low (sym (ap counts_number c.in-Refused.is)))
 
 pub returns : goal.returns
 returns c =
+    let low = le-ltb 3 (pixel_format c.args.file.now) (rw c.u64_at-format.ensures at c.if-format-gt3.false) in
     by-plate
     (record {
-      accepted = sym (counted (goal.at.returns c).After-check_counts-counts (sym (ap counts_number c.in_default.is)));
+      accepted = sym (counted (goal.at.returns c).After-check_counts-counts low (sym (ap counts_number c.in_default.is)));
       width = c.u32_at-width.ensures.0;
       height = c.u32_at-height.ensures.0;
       depth = ap (λ (n : ℕ). ltb n 2) c.u64_at-format.ensures;
