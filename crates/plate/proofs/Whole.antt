@@ -5,6 +5,7 @@ use Rattle.std.specs.Io.KnownBytes.{Appends, Consumes}
 use Rattle.std.proofs.lemmas.List.{append-nil, length-take-le}
 use Rattle.std.proofs.Math.Seq.{take-append_seam}
 use Rattle.convert.specs.Output.{output, read_limit}
+use Rattle.convert.proofs.Past.{enough-read}
 use Rattle.plate.specs.Input.{AtEnd, stopped, came, Answers}
 use Rattle.plate.specs.declared.Input.{Input}
 use Rattle.plate.specs.declared.Read.{Read}
@@ -15,6 +16,12 @@ pub few : (last : Read) (count : ℕ) → stopped last count → count ≤ read_
 few (Bytes n) count e = le_of_eq e
 few End count e = e
 few Failed count e = e
+
+-- where reading stopped, the bytes that were read have the whole file's output
+pub whole_output : (last : Read) (bytes file : List ℕ) (count : ℕ) → stopped last count → came last bytes file count → output bytes ≡ output file
+whole_output (Bytes n) bytes file count e is = ap output (is ∙ ap (λ (k : ℕ). take k file) e) ∙ enough-read file
+whole_output End bytes file count e is = ap output is
+whole_output Failed bytes file count e is = absurd is
 
 -- what reads took is a file's first bytes, or all of it
 came_of : (last : Read) (file left bytes : List ℕ) (count : ℕ)

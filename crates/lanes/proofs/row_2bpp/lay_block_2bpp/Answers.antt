@@ -82,11 +82,10 @@ pub loop-j-smaller : goal.loop-j-smaller
 loop-j-smaller c = omega (arith, c.loop-j-test.true)
 
 pub loop-j-preserved : goal.loop-j-preserved
-loop-j-preserved c =
-    (
-      omega (arith, c.loop-j-test.true),
-      row-part c.loop-j.invariant.1 c.requires.fits.0.apart (row_in (goal.at.loop-j-preserved c).In-loop-j).1 refl c.lay_row_2bpp.ensures,
-    )
+loop-j-preserved c = (
+  omega (arith, c.loop-j-test.true),
+  row-part c.loop-j.invariant.1 c.requires.fits.0.apart (row_in (goal.at.loop-j-preserved c).In-loop-j).1 refl c.lay_row_2bpp.ensures,
+)
 
 pub shape_of-image : goal.shape_of-image
 shape_of-image c = c.loop-j.invariant.1.len

@@ -85,8 +85,7 @@ loop-j-smaller c = omega (arith, c.loop-j-test.true)
 
 pub loop-j-preserved : goal.loop-j-preserved
 loop-j-preserved c =
-    let row = rw c.row_codes.ensures at c.lay_row_4bpp.ensures in
-    (
+    let row = rw c.row_codes.ensures at c.lay_row_4bpp.ensures in (
       omega (arith, c.loop-j-test.true),
       row-part c.loop-j.invariant.1 c.requires.fits.0.apart (row_in (goal.at.loop-j-preserved c).In-loop-j).1 refl row,
     )

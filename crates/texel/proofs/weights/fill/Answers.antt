@@ -27,16 +27,14 @@ returns-in-Around c =
 
 pub returns-in-AboveBelow : goal.returns-in-AboveBelow
 returns-in-AboveBelow c =
-    let a = c.args in
-    (
+    let a = c.args in (
       by-above-below (half a.is2bpp) (only_weights a.weights.now) a.x a.y c.in-AboveBelow.is c.near-in-AboveBelow.ensures.0 c.near-in-AboveBelow-2.ensures.0,
       omega arith,
     )
 
 pub returns-in-LeftRight : goal.returns-in-LeftRight
 returns-in-LeftRight c =
-    let a = c.args in
-    (
+    let a = c.args in (
       by-left-right (half a.is2bpp) (only_weights a.weights.now) a.x a.y c.in-LeftRight.is c.near-in-LeftRight.ensures.0 c.near-in-LeftRight-2.ensures.0,
       omega arith,
     )

@@ -26,8 +26,7 @@ fill-requires c =
 
 pub returns : goal.returns
 returns c =
-    let a = c.args in
-    (
+    let a = c.args in (
       weight a.is2bpp a.own (only_weights a.weights.now) a.px a.py c.rule_at-rule.ensures c.block_width-width.ensures c.fill.ensures.0,
       c.fill.ensures.1,
     )

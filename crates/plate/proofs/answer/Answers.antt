@@ -1,0 +1,10 @@
+use Rattle.std.proofs.Common.{◌∙◌}
+use Rattle.convert.proofs.Said.{within-out, is-output}
+use Rattle.plate.proofs.Whole.{whole_output}
+use Rattle.plate.proofs.answer.Goals as goal
+
+pub returns : goal.returns
+returns c = record {
+  inside = within-out _ c.convert.ensures c.requires.room.bytes;
+  is = λ file came. is-output _ c.convert.ensures c.requires.room.bytes ∙ whole_output c.args.got.last _ file c.args.got.count c.requires.input_len.1 came;
+}
