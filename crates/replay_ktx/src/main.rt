@@ -11,7 +11,7 @@ ghost use Rattle.convert.specs.Output.{Room};
 use ktx::Header;
 use pixel::ChannelOrder;
 use std::io;
-use std::io::{BufWriter, Write};
+use std::io::Write;
 
 // What is chosen of a file, where it ends, and how many words are lent for its picture.
 #[derive(Clone, Copy)]
@@ -36,7 +36,7 @@ enum Row {
 }
 
 fn main(rt: HostRuntime) -> io::Result<()> {
-    let mut printer = BufWriter::new(rt.alloc(), io::writer(&rt))?;
+    let mut printer = io::writer(&rt);
     let mut bytes = [0u8; 66000];
     print_files(&mut printer, &mut bytes)?;
     printer.flush()

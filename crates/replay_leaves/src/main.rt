@@ -6,12 +6,12 @@ ghost use Rattle.std.specs.Prelude.{◌≡◌, min};
 ghost use Rattle.grid.specs.Grid.{Placed};
 
 use std::io;
-use std::io::{BufWriter, Write};
+use std::io::Write;
 
 // The words, each on four lines: its bytes, its colours, and what is read of its weights at 4bpp and at 2bpp. Then the grids, twice: bit
 // by bit and by table, each on a line: the blocks across and down, then each block's address, row after row.
 fn main(rt: HostRuntime) -> io::Result<()> {
-    let mut out = BufWriter::new(rt.alloc(), io::writer(&rt))?;
+    let mut out = io::writer(&rt);
     print_chosen_words(&mut out)?;
     print_drawn_words(&mut out)?;
     print_grids(&mut out, false)?;

@@ -9,7 +9,7 @@ use ktx::Header;
 use levels::{Described, Level};
 use pixel::ChannelOrder;
 use std::io;
-use std::io::{BufWriter, Write};
+use std::io::Write;
 
 // What is chosen of a file: its kind and depth, the sides, how many levels the header says, how many bytes are skipped before them, and in a
 // KTX file the level whose size word is another, and that word.
@@ -34,7 +34,7 @@ enum Run {
 }
 
 fn main(rt: HostRuntime) -> io::Result<()> {
-    let mut printer = BufWriter::new(rt.alloc(), io::writer(&rt))?;
+    let mut printer = io::writer(&rt);
     let mut bytes = [0u8; 6000];
     print_all(&mut printer, &mut bytes)?;
     printer.flush()

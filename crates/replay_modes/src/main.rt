@@ -8,7 +8,7 @@ mod tables;
 use pixel::ChannelOrder;
 use pvrtc::{Decoded, GridMode, Picture, Texel};
 use std::io;
-use std::io::{BufWriter, Write};
+use std::io::Write;
 
 // A way to the words of a picture: the call that is told the depth, that with the depth in its name, the plain form, the row call for each row, the
 // texel call for each texel; or to the words of row y.
@@ -30,7 +30,7 @@ struct Answer {
 }
 
 fn main(rt: HostRuntime) -> io::Result<()> {
-    let mut out = BufWriter::new(rt.alloc(), io::writer(&rt))?;
+    let mut out = io::writer(&rt);
     let reached = print_sizes(&mut out, false, 1)?;
     print_sizes(&mut out, true, reached)?;
     print_red_corner(&mut out, GridMode::Rust, ChannelOrder::BlueFirst)?;

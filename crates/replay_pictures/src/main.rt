@@ -9,7 +9,7 @@ mod tables;
 use pixel::ChannelOrder;
 use pvrtc::{Decoded, GridMode, Picture};
 use std::io;
-use std::io::{BufWriter, Write};
+use std::io::Write;
 
 // A call: it is told the depth, or has it in its name, or is the plain form, or asks for row y.
 #[derive(Clone, Copy)]
@@ -22,7 +22,7 @@ enum Way {
 
 // The pictures, then the rows, for which the generator runs on; then the calls at each depth.
 fn main(rt: HostRuntime) -> io::Result<()> {
-    let mut out = BufWriter::new(rt.alloc(), io::writer(&rt))?;
+    let mut out = io::writer(&rt);
     let shapes = print_shapes(&mut out, 1)?;
     let rows = print_rows(&mut out, &tables::ROWS_4BPP, false, shapes)?;
     print_rows(&mut out, &tables::ROWS_2BPP, true, rows)?;

@@ -8,7 +8,7 @@ ghost use Rattle.std.specs.Prelude.{length};
 ghost use Rattle.convert.specs.Output.{Room};
 
 use std::io;
-use std::io::{BufWriter, Write};
+use std::io::Write;
 
 // What a row says, one number or some as one: where a file is cut, a place and its four bytes, how much metadata there is and where the file ends,
 // a format and two sides, these and where the file ends, two refusals by their places in the order, a bit for each of seven, or flags by their
@@ -26,7 +26,7 @@ enum Row {
 }
 
 fn main(rt: HostRuntime) -> io::Result<()> {
-    let mut printer = BufWriter::new(rt.alloc(), io::writer(&rt))?;
+    let mut printer = io::writer(&rt);
     let mut bytes = [0u8; 40000];
     print_files(&mut printer, &mut bytes)?;
     printer.flush()

@@ -8,11 +8,11 @@ mod tables;
 use pixel::ChannelOrder;
 use pvrtc::{GridMode, Picture, Texel};
 use std::io;
-use std::io::{BufWriter, Write};
+use std::io::Write;
 
 // The pictures, for which the generator is never set back, then the calls.
 fn main(rt: HostRuntime) -> io::Result<()> {
-    let mut out = BufWriter::new(rt.alloc(), io::writer(&rt))?;
+    let mut out = io::writer(&rt);
     let reached = print_sizes(&mut out, &tables::SIZES_4BPP, false, 1)?;
     print_sizes(&mut out, &tables::SIZES_2BPP, true, reached)?;
     print_calls(&mut out, false)?;
