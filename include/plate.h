@@ -1,7 +1,7 @@
 /* The plate decoder, as C calls it: libcapi.a, which `tools/native capi libcapi.a` writes, has these functions.
  *
- * They take a run of bytes as a pointer and a length, and lent words as a pointer and their number. They keep within both, call nothing but memcpy,
- * and hold nothing back. A refusal is a number, 0 for none:
+ * They take a run of bytes as a pointer and a length, and lent words as a pointer and their number. They keep within both, call nothing but memcpy
+ * and memset, and hold nothing back. A refusal is a number, 0 for none:
  *
  *   1  a side is 0                                 4  too few lent words
  *   2  a side is above 65,536                      5  blocks across or down is not a power of two
