@@ -38,7 +38,8 @@ use Rattle.pvrtc.specs.declared.Picture.{Picture}
 use Rattle.pvrtc.proofs.Accepted.{accepted}
 use Rattle.pvrtc.proofs.Orders.{refusal-in}
 use Rattle.levels.specs.Calls.{no_level}
-use Rattle.levels.specs.Levels.{pvr_levels, ktx_levels, levels_in, plate_in, picture_at, need_at, size_word_bytes, start_at, level_at, level_of, picture_of, level_data}
+use Rattle.levels.specs.Levels.{pvr_levels, ktx_levels, levels_in, plate_in, picture_at, need_at, size_word_bytes, start_at, level_at, level_of}
+use Rattle.levels.specs.Levels.{picture_of, level_data}
 use Rattle.levels.specs.Refusals.{header_checks, count_checks, word_cut, word_checks, size_word_checks, own_checks, level_checks, call_checks}
 use Rattle.levels.specs.Refusals.{level_refusal, decode_refusal}
 use Rattle.levels.specs.declared.Level.{Level}

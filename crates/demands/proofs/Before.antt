@@ -33,7 +33,8 @@ module _ (file : List ℕ) where
       own : List Check
       own = own_checks (stored_in file) (length (level_data file))
 
-      by : (t : Bool) → first_of ((cond t (ktx_says file) (pvr_says file)).refusals ++ own) ≡ first_of (cond t (ktx_says file).refusals (header_checks file) ++ own)
+      by : (t : Bool)
+          → first_of ((cond t (ktx_says file) (pvr_says file)).refusals ++ own) ≡ first_of (cond t (ktx_says file).refusals (header_checks file) ++ own)
       by true = refl
       by false = refl
 
@@ -64,12 +65,14 @@ module _ (head : List Check) (file : List ℕ) (t : T (numbered head)) where
       first-append (head_by (ktx_said file) head file) (own_checks (stored_in file) (length (level_data file))) (numbered-head (ktx_said file) tt)
 
   pub level_by : (k : ℕ) → level_refusal_by head file k
-      ≡ cond (eqb (said_by (ktx_header_checks file) head file) 0) (first_of (level.own_checks file (levels_in file) k)) (said_by (ktx_header_checks file) head file)
+      ≡ cond (eqb (said_by (ktx_header_checks file) head file) 0) (first_of (level.own_checks file (levels_in file) k))
+      (said_by (ktx_header_checks file) head file)
   level_by k =
       first-append (head_by (ktx_header_checks file) head file) (level.own_checks file (levels_in file) k) (numbered-head (ktx_header_checks file) tt)
 
   pub decode-by : (k room : ℕ) → decode_refusal_by head file k room
-      ≡ cond (eqb (level_refusal_by head file k) 0) (first_of (call_checks (picture_of file k) (length (data_of_level file k)) room)) (level_refusal_by head file k)
+      ≡ cond (eqb (level_refusal_by head file k) 0) (first_of (call_checks (picture_of file k) (length (data_of_level file k)) room))
+      (level_refusal_by head file k)
   decode-by k room =
       first-append (level_checks_by head file k) (call_checks (picture_of file k) (length (data_of_level file k)) room)
       (numbered-append (head_by (ktx_header_checks file) head file) _ (numbered-head (ktx_header_checks file) tt) (numbered-words file (levels_in file) k))

@@ -38,7 +38,8 @@ module _ (file : List ℕ) where
   program : StopsFlags (has_unknown_flags file) (program_refusal file) (program_refusal_by before file)
   program =
       let own : List Check = own_checks (stored_in file) (length (level_data file)) in
-      rw (program-today file, program-by (header_checks file) file tt, program-by before file tt) (or_else (said (ktx_said file)) (first_of own) (passing own tt))
+      rw (program-today file, program-by (header_checks file) file tt, program-by before file tt)
+      (or_else (said (ktx_said file)) (first_of own) (passing own tt))
 
   -- a level's, which has a size word or not, and that of its picture
   words-pass : (k : ℕ) → T (numbers_pass passes (size_word_checks file (levels_in file) k))
@@ -48,7 +49,8 @@ module _ (file : List ℕ) where
   description-by : (k : ℕ) → StopsFlags (has_unknown_flags file) (level_refusal_by (header_checks file) file k) (level_refusal_by before file k)
   description-by k =
       let own : List Check = level.own_checks file (levels_in file) k in
-      rw (level_by (header_checks file) file tt k, level_by before file tt k) (or_else (said (ktx_header_checks file)) (first_of own) (passing own (words-pass k)))
+      rw (level_by (header_checks file) file tt k, level_by before file tt k)
+      (or_else (said (ktx_header_checks file)) (first_of own) (passing own (words-pass k)))
 
   description : (k : ℕ) → StopsFlags (has_unknown_flags file) (level_refusal file k) (level_refusal_by before file k)
   description k = rw (level-today file k) (description-by k)

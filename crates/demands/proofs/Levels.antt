@@ -29,7 +29,8 @@ use Rattle.levels.specs.Calls.{LevelDecoded}
 use Rattle.levels.specs.Levels.{levels_in, plate_in, picture_of, size_word_bytes, start_at, level_data}
 use Rattle.levels.specs.Inner.{Walks}
 use Rattle.levels.specs.Ranges.{end_at, Reckoned}
-use Rattle.levels.specs.Refusals.{header_checks, most_levels, too_many_levels, no_such_level, count_checks, size_word_checks, own_checks, level_refusal, decode_refusal}
+use Rattle.levels.specs.Refusals.{header_checks, most_levels, too_many_levels, no_such_level, count_checks, size_word_checks, own_checks}
+use Rattle.levels.specs.Refusals.{level_refusal, decode_refusal}
 use Rattle.levels.specs.declared.Decoded.TheVariants.{Done}
 use Rattle.levels.specs.declared.Levels.{Levels}
 use Rattle.levels.proofs.Answers.{numbered-header}

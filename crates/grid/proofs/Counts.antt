@@ -1,5 +1,6 @@
 -- Laws of the number of blocks along a side, over the size of a block. Assumes nothing.
-use Rattle.std.proofs.Common.{◌≡◌, ℕ, ◌+◌, ◌-◌, ◌*◌, ◌/◌, ◌%◌, ◌<◌, ◌≤◌, Bool, true, false, sym, ⊎_elim, mul-le-mul_right, mod-lt, div-lt_iff_lt-mul, mul-le-mul_left, div-add-mod', div-mul-le_self, arith}
+use Rattle.std.proofs.Common.{◌≡◌, ℕ, ◌+◌, ◌-◌, ◌*◌, ◌/◌, ◌%◌, ◌<◌, ◌≤◌, Bool, true, false, sym, ⊎_elim, mul-le-mul_right, mod-lt, div-lt_iff_lt-mul}
+use Rattle.std.proofs.Common.{mul-le-mul_left, div-add-mod', div-mul-le_self, arith}
 use native.Mathlib.Nat.{lt-div-mul-add}
 use Rattle.grid.specs.Grid.{block_width, blocks}
 use Rattle.facts.proofs.Numbers.{lt-or-le, split}

@@ -1,5 +1,6 @@
 -- Each bit of an address is the one that document 01 says. Assumes nothing.
-use Rattle.std.proofs.Common.{◌≡◌, ℕ, zero, suc, ◌+◌, ◌*◌, ◌/◌, ◌%◌, ◌^◌, ◌<◌, ◌≤◌, min, Bool, true, false, cond, leb, sym, refl, ap, ◌∙◌, div-one, arith, pow-add, shr-shr, leb-false, leb-true}
+use Rattle.std.proofs.Common.{◌≡◌, ℕ, zero, suc, ◌+◌, ◌*◌, ◌/◌, ◌%◌, ◌^◌, ◌<◌, ◌≤◌, min, Bool, true, false, cond, leb, sym, refl, ap, ◌∙◌, div-one}
+use Rattle.std.proofs.Common.{arith, pow-add, shr-shr, leb-false, leb-true}
 use native.Mathlib.Nat.{div-eq_of_lt}
 use Rattle.facts.proofs.Powers.{shift, square}
 use Rattle.grid.specs.Grid.{log2, Power, address, Interleaved}

@@ -1,5 +1,6 @@
 -- The addresses of a grid's blocks are the numbers below the number of blocks, each once. Assumes nothing.
-use Rattle.std.proofs.Common.{◌≡◌, ℕ, zero, suc, ◌+◌, ◌-◌, ◌*◌, ◌/◌, ◌%◌, ◌^◌, ◌<◌, ◌≤◌, min, Bool, true, false, leb, sym, refl, ap, ◌∙◌, ap₂, arith, leb-false, leb-true}
+use Rattle.std.proofs.Common.{◌≡◌, ℕ, zero, suc, ◌+◌, ◌-◌, ◌*◌, ◌/◌, ◌%◌, ◌^◌, ◌<◌, ◌≤◌, min, Bool, true, false, leb, sym, refl, ap, ◌∙◌, ap₂, arith}
+use Rattle.std.proofs.Common.{leb-false, leb-true}
 use native.Mathlib.Nat.{pow-succ'}
 use Rattle.facts.proofs.Powers.{pow-split, pow-le-cancel, square}
 use Rattle.grid.specs.Grid.{log2, Power, address, column, row, block_address, block_column, block_row, Bijective}
@@ -110,7 +111,8 @@ shape gx gy px py false e =
     let lt : gx < gy = leb-false gy gx e in
     let m : min gx gy ≡ gx = omega arith in
     let y = times-of gy gx py px (omega arith) in
-    rw m (record { times = 2 ^ (log2 gy - log2 gx); is_x = omega arith; is_y = y; area = omega (arith, area_of (log2 gx) (2 ^ (log2 gy - log2 gx)) gy gx y px) })
+    let times : ℕ = 2 ^ (log2 gy - log2 gx) in
+    rw m (record { times = times; is_x = omega arith; is_y = y; area = omega (arith, area_of (log2 gx) times gy gx y px) })
 
 pub bijective : (gx gy : ℕ) → Power gx → Power gy → Bijective gx gy
 bijective gx gy px py =

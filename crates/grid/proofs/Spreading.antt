@@ -1,5 +1,6 @@
 -- Laws of spread bits, and the address by them. Assumes nothing.
-use Rattle.std.proofs.Common.{◌≡◌, ℕ, zero, suc, ◌+◌, ◌-◌, ◌*◌, ◌/◌, ◌%◌, ◌^◌, ◌<◌, ◌≤◌, min, List, get_or, sym, refl, ap, ◌∙◌, mod-lt, suc-add, div-add-mod', zero-add, div-one, add-one, arith, pow_pos}
+use Rattle.std.proofs.Common.{◌≡◌, ℕ, zero, suc, ◌+◌, ◌-◌, ◌*◌, ◌/◌, ◌%◌, ◌^◌, ◌<◌, ◌≤◌, min, List, get_or, sym, refl, ap, ◌∙◌, mod-lt, suc-add}
+use Rattle.std.proofs.Common.{div-add-mod', zero-add, div-one, add-one, arith, pow_pos}
 use native.Mathlib.Nat.{pow-succ', div-eq_of_lt}
 use lib.Bits.{bit_and}
 use lib.Pow.{field, mod-mod-pow}
@@ -70,7 +71,8 @@ module _ (m x y : ℕ) (p : Placed m x y) where
   above : (v : ℕ) → v - bit_and v (m - 1) ≡ v / m * m
   above v = omega (arith, mask-mod (log2 m) v m p.power, div-add-mod' v m)
 
-  pub by-table : ((x - bit_and x (m - 1)) + (y - bit_and y (m - 1))) * m + (spread_bits 16 (bit_and x (m - 1)) * 2 + spread_bits 16 (bit_and y (m - 1))) ≡ address (log2 m) x y
+  pub by-table : ((x - bit_and x (m - 1)) + (y - bit_and y (m - 1))) * m
+      + (spread_bits 16 (bit_and x (m - 1)) * 2 + spread_bits 16 (bit_and y (m - 1))) ≡ address (log2 m) x y
   by-table =
       rw (above x, above y, low_bits x, low_bits y, address-spread (log2 m) x y, ← p.power) (omega arith)
 

@@ -1,5 +1,6 @@
 -- Laws of neighbours on the torus. Assumes nothing.
-use Rattle.std.proofs.Common.{◌≡◌, ℕ, ◌+◌, ◌-◌, ◌*◌, ◌/◌, ◌%◌, ◌^◌, ◌<◌, ◌≤◌, sym, ap, ◌∙◌, ⊎_elim, mul-le-mul_right, mod-lt, mod-eq_of_lt, eq-or-lt_of_le, div-add-mod', arith, pow_pos}
+use Rattle.std.proofs.Common.{◌≡◌, ℕ, ◌+◌, ◌-◌, ◌*◌, ◌/◌, ◌%◌, ◌^◌, ◌<◌, ◌≤◌, sym, ap, ◌∙◌, ⊎_elim, mul-le-mul_right, mod-lt, mod-eq_of_lt}
+use Rattle.std.proofs.Common.{eq-or-lt_of_le, div-add-mod', arith, pow_pos}
 use native.Mathlib.Nat.{add-mod_right, add-mul-mod_self_right, mod_self}
 use Rattle.facts.proofs.Numbers.{split}
 use Rattle.facts.proofs.Powers.{pow-split}

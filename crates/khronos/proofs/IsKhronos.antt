@@ -51,7 +51,8 @@ module _ (two : Bool) (gx gy : ℕ) (bytes : ℕ → ℕ → List ℕ) (l : (i j
       around (half two) gx gy x y (positive two) (omega arith) (omega arith) (λ i j. f (word_of two (bytes i j))) ∙ simp same
 
   -- how much of each image is taken
-  weight : filled (half two) (rule_at (nine 1 1) (x % (2 * half two)) (y % 4)) nine (x % (2 * half two) + 2 * half two) (y % 4 + 4) ≡ modulation two gx gy words (word64 own) x y
+  weight : filled (half two) (rule_at (nine 1 1) (x % (2 * half two)) (y % 4)) nine (x % (2 * half two) + 2 * half two) (y % 4 + 4)
+      ≡ modulation two gx gy words (word64 own) x y
   weight = rw middle (same-weight two gx gy (omega arith) (omega arith) bytes l x y own (l (x / (2 * half two)) (y / 4)))
 
   punch : punched (half two) (nine 1 1) (x % (2 * half two)) (y % 4) ≡ punch_through two (word64 own) x y
@@ -61,7 +62,8 @@ module _ (two : Bool) (gx gy : ℕ) (bytes : ℕ → ℕ → List ℕ) (l : (i j
   channel : {s t : ℕ → ℕ} → ((n : ℕ) → s n ≡ t n) → (f : PVRTCTexelColor → ℕ) (g : Color → ℕ)
       → ((d : List ℕ) → Bytes d → f (word_of two d).a ≡ g (image_a (word64 d)))
       → ((d : List ℕ) → Bytes d → f (word_of two d).b ≡ g (image_b (word64 d)))
-      → blended (s (nine_sum (half two) (λ i j. f (nine i j).a) (x % (2 * half two)) (y % 4))) (s (nine_sum (half two) (λ i j. f (nine i j).b) (x % (2 * half two)) (y % 4)))
+      → blended (s (nine_sum (half two) (λ i j. f (nine i j).a) (x % (2 * half two)) (y % 4)))
+      (s (nine_sum (half two) (λ i j. f (nine i j).b) (x % (2 * half two)) (y % 4)))
       (filled (half two) (rule_at (nine 1 1) (x % (2 * half two)) (y % 4)) nine (x % (2 * half two) + 2 * half two) (y % 4 + 4))
       ≡ modulated (t (bilinear (half two) gx gy (λ i j. g (image_a (words i j))) x y)) (t (bilinear (half two) gx gy (λ i j. g (image_b (words i j))) x y))
       (modulation two gx gy words (word64 own) x y)

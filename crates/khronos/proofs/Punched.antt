@@ -19,9 +19,14 @@ is_set : (t : Bool) → eqb (cond t 1 0) 1 ≡ t
 is_set true = refl
 is_set false = refl
 
-pub is-punched : (two : Bool) (d : List ℕ) → Bytes d → (x y : ℕ) → punched (half two) (word_of two d) (x % (2 * half two)) (y % 4) ≡ punch_through two (word64 d) x y
+pub is-punched : (two : Bool) (d : List ℕ) → Bytes d → (x y : ℕ)
+    → punched (half two) (word_of two d) (x % (2 * half two)) (y % 4) ≡ punch_through two (word64 d) x y
 unfolding punch_through punch4bpp
 is-punched true d l x y = rw (never-punched d, zero-div (2 ^ (8 * (y % 4) + x % 8)))
 is-punched false d l x y =
-    rw
-    (punch-bit d (4 * (y % 4) + x % 4) (omega arith), is_set (punch4bpp (mode d) (modulation d) (4 * (y % 4) + x % 4)), is-mode (parts d l), is-modulation (parts d l))
+    rw (
+      punch-bit d (4 * (y % 4) + x % 4) (omega arith),
+      is_set (punch4bpp (mode d) (modulation d) (4 * (y % 4) + x % 4)),
+      is-mode (parts d l),
+      is-modulation (parts d l),
+    )

@@ -64,7 +64,8 @@ module _ {w m a b : ℕ} (p : Parts w m a b) (px py : ℕ) where
   unfolding stored2bpp
   is-chequered hx hy =
       let i : (8 * py + px) / 2 ≡ 4 * py + px / 2 = omega arith in
-      rw (gives (is_set m 0) px py hx hy, i, is-modulation p, bit-0 p, is-high-bit (code m (4 * py + px / 2)) (omega arith), is-eighths (code m (4 * py + px / 2)) (omega arith))
+      let at : ℕ = code m (4 * py + px / 2) in
+      rw (gives (is_set m 0) px py hx hy, i, is-modulation p, bit-0 p, is-high-bit at (omega arith), is-eighths at (omega arith))
 
   is-2 : px < 8 → py < 4 → weight2bpp (is_set a 0) m (8 * py + px) ≡ khronos.stored2bpp w px py
   unfolding weight2bpp

@@ -104,7 +104,8 @@ module _ (p q : ℕ) (pos : 0 < p) (e : q * p ≡ 65536) where
         let below : y % p + 1 ≤ p = omega arith in
         omega (arith, mul-le-mul_left q below)
 
-    fit-lanes : (b r g a : ℕ) → b / p < 256 → r / p < 256 → g / p < 256 → a / p < 256 → bit_and (lanes b r g a / p) bytes ≡ lanes (b / p) (r / p) (g / p) (a / p)
+    fit-lanes : (b r g a : ℕ) → b / p < 256 → r / p < 256 → g / p < 256 → a / p < 256
+        → bit_and (lanes b r g a / p) bytes ≡ lanes (b / p) (r / p) (g / p) (a / p)
     fit-lanes b r g a hb hr hg ha =
         ap (λ (x : ℕ). bit_and x bytes) (divided b r g a)
         ∙ and_bytes (b / p + q * (r % p)) (r / p + q * (g % p)) (g / p + q * (a % p)) (a / p) (within-lane b r hb) (within-lane r g hr) (within-lane g a hg)
@@ -241,7 +242,8 @@ module _ (s t : PVRTCTexelColorInt) (w : ℕ) (hs : EightBits (pixel s)) (ht : E
 
 -- so a texel of two sums, blue first
 blue-first : (two : Bool) (s t : PVRTCTexelColorInt) (w : ℕ) (p : Bool) → Low (8 * half two) s → Low (8 * half two) t → w ≤ 8 → let h = half two in
-    texel_lanes h (sum_lanes BlueFirst s) (sum_lanes BlueFirst t) w (cond p clear bytes) ≡ packed BlueFirst (blend (pixel (to_bytes h s)) (pixel (to_bytes h t)) w p)
+    texel_lanes h (sum_lanes BlueFirst s) (sum_lanes BlueFirst t) w (cond p clear bytes)
+    ≡ packed BlueFirst (blend (pixel (to_bytes h s)) (pixel (to_bytes h t)) w p)
 unfolding texel_lanes
 blue-first two s t w p ls lt hw =
     ap₂ (λ (x y : ℕ). mixed_lanes x y w (cond p clear bytes)) (fits two s ls) (fits two t lt)

@@ -29,7 +29,8 @@ lane_most = 8725724278030336
 
 -- bytes k and k + 1 of word z, as the code reads a colour of them
 color-read : (order : ChannelOrder) (d : List ℕ) (z k : ℕ) (blue : ℕ → ℕ) {c r : ℕ} → c ≡ get_or d (8 * z + k) 0 + 256 * get_or d (8 * z + k + 1) 0
-    → r ≡ color_lanes order (color_of c (blue c)) → let w = get_or (word_at d z) k 0 + 256 * get_or (word_at d z) (k + 1) 0 in r ≡ color_lanes order (color_of w (blue w))
+    → r ≡ color_lanes order (color_of c (blue c))
+    → let w = get_or (word_at d z) k 0 + 256 * get_or (word_at d z) (k + 1) 0 in r ≡ color_lanes order (color_of w (blue w))
 color-read order d z k blue ec er =
     let next : 8 * z + (k + 1) ≡ 8 * z + k + 1 = omega arith in
     let e = ap₂ (λ (m n : ℕ). m + 256 * n) (byte-of d z k) (byte-of d z (k + 1) ∙ ap (λ (n : ℕ). get_or d n 0) next) ∙ sym ec in
@@ -49,11 +50,13 @@ unfolding lanes_b
 b-le order d z = color-le order _ (rw (color-b true (word_at d z)) at (small_b true (word_at d z)))
 
 module _ (order : ChannelOrder) (d : List ℕ) (z : ℕ) {c r : ℕ} where
-  pub a-is : c ≡ get_or d (8 * z + 4) 0 + 256 * get_or d (8 * z + 4 + 1) 0 → r ≡ color_lanes order (color_of c (blue_a c)) → (r ≡ lanes_a order d z) × (r ≤ lane_most)
+  pub a-is : c ≡ get_or d (8 * z + 4) 0 + 256 * get_or d (8 * z + 4 + 1) 0 → r ≡ color_lanes order (color_of c (blue_a c))
+      → (r ≡ lanes_a order d z) × (r ≤ lane_most)
   unfolding lanes_a
   a-is ec er = let e : r ≡ lanes_a order d z = color-read order d z 4 blue_a ec er in (e, rw e (a-le order d z))
 
-  pub b-is : c ≡ get_or d (8 * z + 6) 0 + 256 * get_or d (8 * z + 6 + 1) 0 → r ≡ color_lanes order (color_of c (blue_b c)) → (r ≡ lanes_b order d z) × (r ≤ lane_most)
+  pub b-is : c ≡ get_or d (8 * z + 6) 0 + 256 * get_or d (8 * z + 6 + 1) 0 → r ≡ color_lanes order (color_of c (blue_b c))
+      → (r ≡ lanes_b order d z) × (r ≤ lane_most)
   unfolding lanes_b
   b-is ec er = let e : r ≡ lanes_b order d z = color-read order d z 6 blue_b ec er in (e, rw e (b-le order d z))
 

@@ -103,7 +103,8 @@ texel-is order d z x y hx hy =
 
 -- the codes, as the code reads them
 module _ (d : List ℕ) (z : ℕ) {b0 b1 b2 b3 b4 : ℕ} where
-  pub codes-are : b0 ≡ get_or d (8 * z) 0 → b1 ≡ get_or d (8 * z + 1) 0 → b2 ≡ get_or d (8 * z + 2) 0 → b3 ≡ get_or d (8 * z + 3) 0 → b4 ≡ get_or d (8 * z + 4) 0
+  pub codes-are : b0 ≡ get_or d (8 * z) 0 → b1 ≡ get_or d (8 * z + 1) 0 → b2 ≡ get_or d (8 * z + 2) 0 → b3 ≡ get_or d (8 * z + 3) 0
+      → b4 ≡ get_or d (8 * z + 4) 0
       → record { modulation = b0 + 256 * b1 + 65536 * b2 + 16777216 * b3; start = 4 * (b4 % 2) } ≡ codes_of (word_at d z)
   unfolding codes_of
   codes-are e0 e1 e2 e3 e4 =

@@ -61,7 +61,8 @@ module _ (order : ChannelOrder) (two : Bool) (d : List ℕ) (z : ℕ → ℕ →
 
     -- columns k whose row y is the words' by their shares there, for either colour
     summed : (second : Bool) (k : ℕ → List ℕ)
-        → ((i : ℕ) → get_or (k i) y 0 ≡ shared 2 y (word_lanes order nine_at second i 0) (word_lanes order nine_at second i 1) (word_lanes order nine_at second i 2))
+        → ((i : ℕ) → get_or (k i) y 0
+        ≡ shared 2 y (word_lanes order nine_at second i 0) (word_lanes order nine_at second i 1) (word_lanes order nine_at second i 2))
         → shared (half two) x (get_or (k 0) y 0) (get_or (k 1) y 0) (get_or (k 2) y 0) ≡ sum_lanes order (totals second)
     summed second k e = rw (e 0, e 1, e 2) (sums-are order (half two) x y nine_at second)
 
@@ -83,5 +84,6 @@ module _ (order : ChannelOrder) (two : Bool) (d : List ℕ) (z : ℕ → ℕ →
     window-texel w keep ew ek =
         let rule = rule_at (nine_at 1 1) x y in
         rw (sum-a, sum-b, ew, ek)
-        (texel-lanes order two (totals false) (totals true) (filled (half two) rule nine_at (x + block_width two) (y + 4)) (punched (half two) (nine_at 1 1) x y)
+        (texel-lanes order two (totals false) (totals true) (filled (half two) rule nine_at (x + block_width two) (y + 4))
+        (punched (half two) (nine_at 1 1) x y)
         (low false) (low true) (filled-le two (λ i j. word_at d (z i j)) rule (x + block_width two) (y + 4)))

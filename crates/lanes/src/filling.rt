@@ -1,7 +1,8 @@
 // Rows of weights at 2bpp, as they are stored and as they are filled.
 ghost use Rattle.std.specs.Prelude.{false, cond, ◌≡◌, ◌+◌, ◌*◌, ◌/◌, ◌<◌, ◌≤◌, eqb, length};
 ghost use Rattle.lanes.specs.Column.{word_at};
-ghost use Rattle.lanes.specs.Block2bpp.{bit_row, code_row, byte_row, weight_row, weight_rows, fill_rule_of, filled_row, filled_rows, LowRow, LowRows, FewTimes, LowRule};
+ghost use Rattle.lanes.specs.Block2bpp.{bit_row, code_row, byte_row, weight_row, weight_rows, fill_rule_of, filled_row, filled_rows, LowRow, LowRows};
+ghost use Rattle.lanes.specs.Block2bpp.{FewTimes, LowRule};
 ghost use Rattle.lanes.specs.BlockRow.{InColumn};
 
 use crate::colors::{byte, pick};
@@ -172,7 +173,9 @@ pub fn weights_at(data: &[u8], row: RowAddresses, part: usize) -> Weights
 // How that block is filled.
 pub fn rule_at(data: &[u8], row: RowAddresses, part: usize) -> FillRule
     requires { InColumn row part (length «data».now) }
-    ensures { (result ≡ fill_rule_of (word_at «data».now (part + row.above)) (word_at «data».now (part + row.own)) (word_at «data».now (part + row.below))) × LowRule result }
+    ensures { (result
+        ≡ fill_rule_of (word_at «data».now (part + row.above)) (word_at «data».now (part + row.own)) (word_at «data».now (part + row.below)))
+        × LowRule result }
 {
     read_rule(data, part + row.above, part + row.own, part + row.below)
 }

@@ -53,7 +53,8 @@ word_more start stride i f old l fits =
         ∙ painted-out start stride i 1 wide f old k (λ x y hx hy q. out x y (omega arith) hy q)
 
 -- of one row the stride does not count
-pub one-row : (start stride other w : ℕ) (f : ℕ → ℕ → ℕ) (old : List ℕ) → w ≤ stride → w ≤ other → painted start stride w 1 f old ≡ painted start other w 1 f old
+pub one-row : (start stride other w : ℕ) (f : ℕ → ℕ → ℕ) (old : List ℕ) → w ≤ stride → w ≤ other
+    → painted start stride w 1 f old ≡ painted start other w 1 f old
 one-row start stride other w f old wide wide' =
     is-painted start other w 1 wide' f old (painted start stride w 1 f old) (length-painted start stride w 1 wide f old)
     (λ x y hx hy l. ap (λ (k : ℕ). get_or (painted start stride w 1 f old) k 0) (flat x y hy)
@@ -189,7 +190,8 @@ part_none f old start stride n l = record { len = refl; is = painted-none start 
 pub part-empty : (f : ℕ → ℕ → ℕ) (old : List ℕ) (start stride r : ℕ) → Part f old start stride 0 r old
 part-empty f old start stride r = record { len = refl; is = no_words start stride r f old }
 
-part-is : {f : ℕ → ℕ → ℕ} {old : List ℕ} {start stride n j : ℕ} {new : List ℕ} → n ≤ stride → new ≡ painted start stride n j f old → Part f old start stride n j new
+part-is : {f : ℕ → ℕ → ℕ} {old : List ℕ} {start stride n j : ℕ} {new : List ℕ} → n ≤ stride → new ≡ painted start stride n j f old
+    → Part f old start stride n j new
 part-is {f} {old} {start} {stride} {n} {j} l e = record { len = ap length e ∙ length-painted start stride n j l f old; is = e }
 
 pub row-part : {f : ℕ → ℕ → ℕ} {old : List ℕ} {start stride n j : ℕ} {img new : List ℕ} {at : ℕ} → Part f old start stride n j img → n ≤ stride

@@ -44,7 +44,8 @@ module _ (start stride w h : ℕ) (wide : w ≤ stride) where
   found : (k : ℕ) → inside start stride w h k ≡ true → At k
   found k e = by (leb start k) refl (ltb ((k - start) % stride) w) refl (ltb ((k - start) / stride) h) refl e
     where
-      by : (a : Bool) → leb start k ≡ a → (b : Bool) → ltb ((k - start) % stride) w ≡ b → (c : Bool) → ltb ((k - start) / stride) h ≡ c → (a && b && c) ≡ true → At k
+      by : (a : Bool) → leb start k ≡ a → (b : Bool) → ltb ((k - start) % stride) w ≡ b → (c : Bool) → ltb ((k - start) / stride) h ≡ c
+          → (a && b && c) ≡ true → At k
       by true ea true eb true ec t =
           record {
             x = (k - start) % stride;
@@ -73,7 +74,8 @@ module _ (start stride w h : ℕ) (wide : w ≤ stride) where
     length-painted = length-tab _ (length old)
 
     -- what a word of the rectangle is
-    pub painted-in : (x y : ℕ) → x < w → y < h → start + (y * stride + x) < length old → get_or (painted start stride w h f old) (start + (y * stride + x)) 0 ≡ f x y
+    pub painted-in : (x y : ℕ) → x < w → y < h → start + (y * stride + x) < length old
+        → get_or (painted start stride w h f old) (start + (y * stride + x)) 0 ≡ f x y
     unfolding painted
     painted-in x y hx hy l =
         let back : start + (y * stride + x) - start ≡ y * stride + x = omega arith in

@@ -25,7 +25,8 @@ use Rattle.pvrtc.specs.Refusals.{need, short_data}
 use Rattle.pvrtc.proofs.Accepted.{accepted, stands}
 
 -- a word of the grid's blocks is the same where more bytes follow
-word-past : (two : Bool) (d e : List ℕ) (n z : ℕ) → 8 * n ≤ length d → z < n → ((k : ℕ) → k < 8 → get_or (drop (8 * z) (d ++ e)) k 0 ≡ get_or (drop (8 * z) d) k 0)
+word-past : (two : Bool) (d e : List ℕ) (n z : ℕ) → 8 * n ≤ length d → z < n
+    → ((k : ℕ) → k < 8 → get_or (drop (8 * z) (d ++ e)) k 0 ≡ get_or (drop (8 * z) d) k 0)
 word-past two d e n z l h k m =
     get_or-drop (8 * z) (d ++ e) k 0 ∙ get_or-append d e 0 (8 * z + k) (omega arith) ∙ sym (get_or-drop (8 * z) d k 0)
 

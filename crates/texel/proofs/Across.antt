@@ -22,7 +22,8 @@ use Rattle.word.specs.declared.Fill.{Fill}
 use Rattle.word.specs.declared.Fill.TheVariants.{Nothing, Around, AboveBelow, LeftRight}
 use Rattle.texel.specs.Texel.{share, factor, Words, nine_sum, blend, near, filled, rule_at, punched, mixed, texel_in}
 use Rattle.texel.specs.Inner.{blank, nine_of, side, sums_to, to_bytes, pixel, SmallColors, Read, Low}
-use Rattle.texel.specs.Summed.{shares, share_rows, three, weighed, widened, column_of, window_of, across_of, weights_of, only_weights, texel_by, with_texels, FewShares, LowColumns, LowWindow, LowWeights}
+use Rattle.texel.specs.Summed.{shares, share_rows, three, weighed, widened, column_of, window_of, across_of, weights_of, only_weights, texel_by}
+use Rattle.texel.specs.Summed.{with_texels, FewShares, LowColumns, LowWindow, LowWeights}
 use Rattle.texel.proofs.Shares.{half-low, half_high, share-le, share-total}
 
 -- row p of the table
@@ -42,7 +43,8 @@ few-shares h p lh l = record { few = few }
 
 -- the three words of a column
 pub column-is : (nine : List PVRTCTexelInfo) (second : Bool) (i : ℕ) (row : List ℕ) {p q s r : PVRTCTexelColorInt}
-    → p ≡ widened (side second (get_or nine i blank)) → q ≡ widened (side second (get_or nine (3 + i) blank)) → s ≡ widened (side second (get_or nine (6 + i) blank))
+    → p ≡ widened (side second (get_or nine i blank)) → q ≡ widened (side second (get_or nine (3 + i) blank))
+    → s ≡ widened (side second (get_or nine (6 + i) blank))
     → r ≡ weighed row p q s → r ≡ column_of (nine_of nine) second i row
 unfolding column_of
 column-is nine second i row ep eq es er = rw (er, ep, eq, es, zero-add i)
@@ -190,12 +192,18 @@ module _ (two : Bool) (nine : List PVRTCTexelInfo) where
     unfolding filled
     filled-same Nothing = at x y (omega arith) (omega arith)
     filled-same Around =
-        rw (at x (y - 1) (omega arith) (omega arith), at x (y + 1) (omega arith) (omega arith), at (x - 1) y (omega arith) (omega arith), at (x + 1) y (omega arith) (omega arith))
+        rw (
+          at x (y - 1) (omega arith) (omega arith),
+          at x (y + 1) (omega arith) (omega arith),
+          at (x - 1) y (omega arith) (omega arith),
+          at (x + 1) y (omega arith) (omega arith),
+        )
     filled-same AboveBelow = rw (at x (y - 1) (omega arith) (omega arith), at x (y + 1) (omega arith) (omega arith))
     filled-same LeftRight = rw (at (x - 1) y (omega arith) (omega arith), at (x + 1) y (omega arith) (omega arith))
 
     -- the texel from its window and the weights about it is the texel of the nine words
-    pub by-window : texel_by (half two) (weights_of nine) (nine_of nine 1 1) (window_of (nine_of nine) (shares 2 py)) px py ≡ texel_in (half two) (nine_of nine) px py
+    pub by-window : texel_by (half two) (weights_of nine) (nine_of nine 1 1) (window_of (nine_of nine) (shares 2 py)) px py
+        ≡ texel_in (half two) (nine_of nine) px py
     unfolding texel_by texel_in mixed sums_to nine_sum
     by-window =
         blend-same (half two) (punched (half two) (nine_of nine 1 1) px py) (across-is (half two) px py (nine_of nine) false)

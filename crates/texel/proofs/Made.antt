@@ -40,7 +40,8 @@ pub weight : (two : Bool) (own : PVRTCTexelInfo) (nine : Words) (px py : ℕ) {f
 weight two own nine px py ef ew er = rw (← ef, ← ew) er
 
 -- an index and the weight there
-pub near-is : (two : Bool) (weights : List (List ℕ)) (x y : ℕ) {k i : ℕ} → k ≡ 3 * (y / 4) + x / block_width two → i ≡ block_width two * (y % 4) + x % block_width two
+pub near-is : (two : Bool) (weights : List (List ℕ)) (x y : ℕ) {k i : ℕ} → k ≡ 3 * (y / 4) + x / block_width two
+    → i ≡ block_width two * (y % 4) + x % block_width two
     → get_or (get_or weights k []) i 0 ≡ near (half two) (only_weights weights) x y
 unfolding near
 near-is two weights x y ek ei = rw (ek, ei)

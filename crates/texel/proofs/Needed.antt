@@ -70,7 +70,8 @@ module _ (g : Grid) (d : List ℕ) (bx by : ℕ) (across down : List ℕ) where
       bytes k = drop (8 * address_of g bx by k) d
 
   -- where each block that has a share at a place has one by the rows, the texel there is the texel of all nine
-  pub needed-texel : (px py : ℕ) → px < block_width g.is2bpp → py < 4 → ((i : ℕ) → HasShare (half g.is2bpp) px i → 0 < get_or across i 0) → ((j : ℕ) → HasShare 2 py j → 0 < get_or down j 0)
+  pub needed-texel : (px py : ℕ) → px < block_width g.is2bpp → py < 4 → ((i : ℕ) → HasShare (half g.is2bpp) px i → 0 < get_or across i 0)
+      → ((j : ℕ) → HasShare 2 py j → 0 < get_or down j 0)
       → texel_in (half g.is2bpp) (nine_of (needed_about g d bx by across down)) px py ≡ texel_in (half g.is2bpp) (words_about g d bx by) px py
   needed-texel px py lx ly a b =
       texel-same (half g.is2bpp) px py (half-low g.is2bpp) lx ly (nine_of (needed_about g d bx by across down)) (words_about g d bx by) agree
@@ -133,7 +134,8 @@ texel-of-row order g d x y =
     let px : ℕ = x % block_width g.is2bpp in
     let wide : 0 < block_width g.is2bpp = omega (arith, half-low g.is2bpp) in
     ap (packed order)
-    (needed-texel g d (x / block_width g.is2bpp) (y / 4) every (shares 2 (y % 4)) px (y % 4) (mod-lt x wide) (omega arith) (every-at (half g.is2bpp) px) (share-at 2 (y % 4)))
+    (needed-texel g d (x / block_width g.is2bpp) (y / 4) every (shares 2 (y % 4)) px (y % 4) (mod-lt x wide) (omega arith)
+    (every-at (half g.is2bpp) px) (share-at 2 (y % 4)))
 
 -- the words about a block become those about the next one
 module _ (g : Grid) (d : List ℕ) (q bx by py : ℕ) (lq : q < g.across) (e : bx ≡ beside g.across q 2) where
@@ -152,7 +154,9 @@ module _ (g : Grid) (d : List ℕ) (q bx by py : ℕ) (lq : q < g.across) (e : b
 
 -- with what the calls inside give
 pub slid-to : (g : Grid) (d : List ℕ) (bx by py : ℕ) (nine : List PVRTCTexelInfo) {row : List ℕ} {u v w : PVRTCTexelInfo} → row ≡ shares 2 py
-    → u ≡ word_if (get_or row 0 0) (word_about g d bx by 2) → v ≡ word_if (get_or row 1 0) (word_about g d bx by 5) → w ≡ word_if (get_or row 2 0) (word_about g d bx by 8)
-    → get_or nine 1 blank ∷ get_or nine 2 blank ∷ u ∷ get_or nine 4 blank ∷ get_or nine 5 blank ∷ v ∷ get_or nine 7 blank ∷ get_or nine 8 blank ∷ w ∷ [] ≡ slid g d bx by py nine
+    → u ≡ word_if (get_or row 0 0) (word_about g d bx by 2) → v ≡ word_if (get_or row 1 0) (word_about g d bx by 5)
+    → w ≡ word_if (get_or row 2 0) (word_about g d bx by 8)
+    → get_or nine 1 blank ∷ get_or nine 2 blank ∷ u ∷ get_or nine 4 blank ∷ get_or nine 5 blank ∷ v ∷ get_or nine 7 blank ∷ get_or nine 8 blank ∷ w ∷ []
+    ≡ slid g d bx by py nine
 unfolding slid
 slid-to g d bx by py nine er eu ev ew = rw (eu, ev, ew, er)

@@ -116,4 +116,5 @@ pub look-same : (h gx gy x y : ℕ) → 2 ≤ h → (look look' : Words)
     → texel_at h gx gy look x y ≡ texel_at h gx gy look' x y
 unfolding texel_at
 look-same h gx gy x y lh look look' agree =
-    texel-same h (x % (2 * h)) (y % 4) lh (mod-lt x (omega arith)) (omega arith) (about gx gy look (x / (2 * h)) (y / 4)) (about gx gy look' (x / (2 * h)) (y / 4)) agree
+    texel-same h (x % (2 * h)) (y % 4) lh (mod-lt x (omega arith)) (omega arith) (about gx gy look (x / (2 * h)) (y / 4))
+    (about gx gy look' (x / (2 * h)) (y / 4)) agree

@@ -14,7 +14,8 @@ use Rattle.facts.proofs.Bits.{flags-bit}
 use Rattle.facts.proofs.Finite.{at}
 use Rattle.facts.proofs.Numbers.{cond-le}
 use Rattle.facts.proofs.Tab.{length-tab, get_or-tab, tab-front}
-use Rattle.word.specs.Word.{modulation, color_a, color_b, mode, opaque, blue_a, blue_b, color_of, Small, code, standard_weight, punch_through_weight, weight4bpp, punch4bpp, holds_code, gives_bit, stored2bpp, weight2bpp, word_of}
+use Rattle.word.specs.Word.{modulation, color_a, color_b, mode, opaque, blue_a, blue_b, color_of, Small, code, standard_weight, punch_through_weight}
+use Rattle.word.specs.Word.{weight4bpp, punch4bpp, holds_code, gives_bit, stored2bpp, weight2bpp, word_of}
 use Rattle.word.specs.declared.Fill.TheVariants.{Nothing}
 
 small : (c blue : ℕ) → blue ≤ 31 → Small (color_of c blue)

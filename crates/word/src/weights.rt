@@ -1,7 +1,8 @@
 // The weights of a word's texels.
 ghost use Rattle.std.specs.Prelude.{◌≡◌, cond, ◌+◌, ◌*◌, ◌^◌, ◌<◌, get_or};
 ghost use Rattle.word.specs.Word as spec;
-ghost use Rattle.word.specs.Word.{code, standard_weights, punch_through_weights, punch4bpp, with_weights_4bpp, stored2bpp, weight2bpp, fill2bpp, with_weights_2bpp};
+ghost use Rattle.word.specs.Word.{code, standard_weights, punch_through_weights, punch4bpp, with_weights_4bpp, stored2bpp, weight2bpp, fill2bpp};
+ghost use Rattle.word.specs.Word.{with_weights_2bpp};
 
 use crate::{Fill, PVRTCTexelInfo, byte_at};
 

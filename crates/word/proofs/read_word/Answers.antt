@@ -8,7 +8,8 @@ use Rattle.word.specs.declared.PVRTCTexelInfo.{PVRTCTexelInfo}
 use Rattle.word.proofs.read_word.Goals as goal
 
 -- each reader works on what the one before it left
-whole : (two : Bool) (d : List ℕ) {i j r : PVRTCTexelInfo} → i ≡ unread → j ≡ with_colors d i → r ≡ cond two (with_weights_2bpp d j) (with_weights_4bpp d j) → r ≡ word_of two d
+whole : (two : Bool) (d : List ℕ) {i j r : PVRTCTexelInfo} → i ≡ unread → j ≡ with_colors d i
+    → r ≡ cond two (with_weights_2bpp d j) (with_weights_4bpp d j) → r ≡ word_of two d
 unfolding word_of
 whole two d u v w = w ∙ ap (λ (x : PVRTCTexelInfo). cond two (with_weights_2bpp d x) (with_weights_4bpp d x)) (v ∙ ap (with_colors d) u)
 

@@ -71,10 +71,12 @@ row_codes-requires c = (row_in (goal.at.row_codes-requires c).In-loop-j).0
 pub lay_row_4bpp-requires : goal.lay_row_4bpp-requires
 lay_row_4bpp-requires c =
     let p = c.requires in
+    let s = p.small_column in
+    let row = row_in (goal.at.lay_row_4bpp-requires c).In-loop-j in
     record {
       weights_value = p.weights_value;
-      small_sums = (row_small p.small_column.0 p.small_column.1 p.small_column.2 (row_in (goal.at.lay_row_4bpp-requires c).In-loop-j).0, rw c.row_codes.ensures p.small_column.3);
-      columns_bound = (p.fits.1, rw c.loop-j.invariant.1.len (omega (arith, row_in (goal.at.lay_row_4bpp-requires c).In-loop-j)));
+      small_sums = (row_small s.0 s.1 s.2 row.0, rw c.row_codes.ensures s.3);
+      columns_bound = (p.fits.1, rw c.loop-j.invariant.1.len (omega (arith, row)));
     }
 
 pub overflow_step-j : goal.overflow_step-j

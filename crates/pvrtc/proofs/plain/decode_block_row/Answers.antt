@@ -34,10 +34,11 @@ decode_block-requires c =
     let part = c.columns_from.ensures in
     let width = c.block_width-width.ensures in
     let l = c.loop-bx in
-    let across : l.bx < c.args.g.across = omega
-    (arith, c.loop-bx-test.true, c.num_blocks_x-bx-end.ensures, c.requires.cover) in record {
+    let across : l.bx < c.args.g.across = omega (arith, c.loop-bx-test.true, c.num_blocks_x-bx-end.ensures, c.requires.cover) in
+    let fit = columns-fit c.requires.fits _ _ (starts (goal.at.decode_block-requires c).In-loop-bx) in
+    record {
       stands = (c.requires.words, record { across = across; down = c.requires.down });
-      fits = (rw (part, l.invariant.1.len) (columns-fit c.requires.fits _ _ (starts (goal.at.decode_block-requires c).In-loop-bx)), rw (part, width) (omega arith), rw part c.requires.few);
+      fits = (rw (part, l.invariant.1.len) fit, rw (part, width) (omega arith), rw part c.requires.few);
     }
 
 pub overflow_step-bx : goal.overflow_step-bx

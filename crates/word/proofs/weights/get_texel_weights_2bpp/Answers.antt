@@ -15,7 +15,8 @@ use Rattle.word.specs.declared.PVRTCTexelInfo.{PVRTCTexelInfo}
 use Rattle.word.proofs.weights.get_texel_weights_2bpp.Goals as goal
 
 -- what the calls and the loop leave is the definition's record
-ends : (d : List ℕ) (i : PVRTCTexelInfo) {one : Bool} {m : ℕ} {w : List ℕ} {f : Fill} → one ≡ mode d → m ≡ modulation d → f ≡ fill2bpp one m → w ≡ tab (weight2bpp one m) 32
+ends : (d : List ℕ) (i : PVRTCTexelInfo) {one : Bool} {m : ℕ} {w : List ℕ} {f : Fill} → one ≡ mode d → m ≡ modulation d → f ≡ fill2bpp one m
+    → w ≡ tab (weight2bpp one m) 32
     → record { a = i.a; b = i.b; weight = w; punch_through_flag = 0; fill = f } ≡ with_weights_2bpp d i
 ends d i e k l h = cc
 

@@ -21,7 +21,8 @@ ends : (d : List ℕ) (i : PVRTCTexelInfo) {one : Bool} {m n f : ℕ} {w : List 
 ends d i en e k h l = cc
 
 -- a weight read from the mode's table
-by-table : (one : Bool) (m i : ℕ) {v : ℕ} {table : List ℕ} → table ≡ cond one punch_through_weights standard_weights → v ≡ get_or table (code m i) 0 → v ≡ weight4bpp one m i
+by-table : (one : Bool) (m i : ℕ) {v : ℕ} {table : List ℕ} → table ≡ cond one punch_through_weights standard_weights → v ≡ get_or table (code m i) 0
+    → v ≡ weight4bpp one m i
 unfolding weight4bpp
 by-table true m i e f = cc
 by-table false m i e f = cc
