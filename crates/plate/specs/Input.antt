@@ -2,6 +2,8 @@
 use Rattle.std.specs.Prelude.{◌≡◌, List, ℕ, zero, suc, ◌<◌, ◌≤◌, Result, Ok, Err, Option, length, take}
 use Rattle.std.specs.Io.KnownBytes.{Consumes, Keeps, IsAtEnd}
 use Rattle.convert.specs.Output.{output, read_limit}
+use Rattle.plate.specs.declared.Failure.{Failure}
+use Rattle.plate.specs.declared.Failure.TheVariants.{Unread, Unwritten}
 use Rattle.plate.specs.declared.Input.{Input}
 use Rattle.plate.specs.declared.Read.{Read}
 use Rattle.plate.specs.declared.Read.TheVariants.{Bytes, End, Failed}
@@ -51,3 +53,8 @@ came Failed bytes file count = ⊥
 pub record Answers (i : Input) (input out : List ℕ) (r : ℕ) : Type 0 where
   pub inside : r ≤ length out
   pub is : (file : List ℕ) → came i.last (take i.count input) file i.count → take r out ≡ output file
+
+-- Where reading failed, the writer is as it was: nothing was written.
+abbrev pub KeptIfUnread : {W : Type 0} → (old new : W) → Failure → Type 0
+KeptIfUnread old new Unread = new ≡ old
+KeptIfUnread old new Unwritten = Unit {0}

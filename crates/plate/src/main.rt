@@ -1,10 +1,10 @@
 // Reads a PVR or KTX file on standard input, and writes its picture as a TGA on standard output, or the line of a refusal.
 #![tactic(auto)]
 
-ghost use Rattle.std.specs.Prelude.{◌≡◌, ◌-◌, ◌<◌, length, take, drop, IfSome, OnOk};
+ghost use Rattle.std.specs.Prelude.{◌≡◌, ◌-◌, ◌<◌, length, take, drop, IfSome, IfErr, OnOk};
 ghost use Rattle.std.specs.Io.KnownBytes.{Appends, Consumes};
 ghost use Rattle.convert.specs.Output.{Room, output, read_limit};
-ghost use Rattle.plate.specs.Input.{meant, within, Took, AtEnd, Stopped, Answers};
+ghost use Rattle.plate.specs.Input.{meant, within, Took, AtEnd, Stopped, Answers, KeptIfUnread};
 
 use std::io;
 
@@ -101,7 +101,8 @@ fn run<R: io::Read, W: io::Write>(
     image: &mut [u32; 131072],
     out: &mut [u8; 524306],
 ) -> Result<(), Failure>
-    ensures { OnOk result (IfSome (R.remaining from.old) (λ file. Appends (W.contents to.old) (W.contents to.new) (output file))) }
+    ensures whole { OnOk result (IfSome (R.remaining from.old) (λ file. Appends (W.contents to.old) (W.contents to.new) (output file))) }
+    ensures unread { IfErr result (KeptIfUnread to.old to.new) }
 {
     let got = read_input(from, input);
     let last = got.last;
