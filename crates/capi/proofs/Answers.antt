@@ -71,9 +71,6 @@ module _ (width height bits payload : ℕ) {field : ℕ} where
   pub payload-4 : field ≡ 4 → payload ≡ plate_field width height bits payload field
   payload-4 e = rw e refl
 
-  pub no_other : (field ≡ 1 → ⊥) → (field ≡ 2 → ⊥) → (field ≡ 3 → ⊥) → (field ≡ 4 → ⊥) → 0 ≡ plate_field width height bits payload field
-  no_other a b c d = rw (ne_eqb field 1 a) (rw (ne_eqb field 2 b) (rw (ne_eqb field 3 c) (rw (ne_eqb field 4 d) refl)))
-
 -- how a header's answer becomes a field, whatever kind of file has it
 module _ {refusal v : ℕ} (value field : ℕ) where
   pub of-refused : {n : ℕ} → n ≡ refusal → 0 < n → v ≡ cond (eqb field 0) n 0 → v ≡ field_of refusal value field

@@ -1,4 +1,4 @@
--- What was read until the end of the input, or up to the limit, is a file's, so what is answered for it is the file's output.
+-- What was read until the end of the input, or up to the limit, is a file's, so what is answered for it is the file's output. Assumes nothing.
 use Rattle.std.proofs.Common.{le_of_eq, ◌≡◌, ◌∙◌, refl, sym, ap, subst, ℕ, List, ◌++◌, ◌≤◌, length, take}
 use Rattle.std.specs.Prelude.{Option, None, Some, IfSome}
 use Rattle.std.specs.Io.KnownBytes.{Appends, Consumes}

@@ -1,3 +1,4 @@
+-- `capi::plate_field` meets its contract, field by field. Assumes nothing.
 use mathlib.Core.Path.{refl}
 use Rattle.capi.proofs.Answers.{width-1, height-2, bits-3, payload-4}
 use Rattle.files.specs.Fields.{bits_of}

@@ -1,3 +1,4 @@
+-- `plate::answer` meets its contract: what `convert` lays for the bytes that were read is the file's output. Assumes nothing.
 use Rattle.std.proofs.Common.{◌∙◌}
 use Rattle.convert.proofs.Said.{within-out, is-output}
 use Rattle.plate.proofs.Whole.{whole_output}

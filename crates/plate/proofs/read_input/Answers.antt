@@ -1,3 +1,4 @@
+-- `plate::read_input` meets its contract: one read more is taken behind those before. Assumes nothing.
 use Rattle.std.proofs.Common.{arith}
 use Rattle.plate.proofs.Takes.{takes_more}
 use Rattle.plate.proofs.read_input.Goals as goal

@@ -1,4 +1,4 @@
--- What was read lies within the buffer, which keeps its length, and it is what reads took. No read said that the input ended.
+-- What was read lies within the buffer, which keeps its length, and it is what reads took. No read said that the input ended. Assumes nothing.
 use Rattle.std.proofs.Common.{length, take, ◌-◌, ◌≡◌, ◌≤◌}
 use Rattle.std.specs.Io.KnownBytes.{Consumes}
 use Rattle.plate.specs.Input.{AtEnd}

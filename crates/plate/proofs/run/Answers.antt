@@ -1,3 +1,4 @@
+-- `plate::run` meets its contract: what was read is the file's, and what was written its output. Assumes nothing.
 use Rattle.std.proofs.Common.{◌≤◌, length, arith}
 use Rattle.plate.proofs.Whole.{few, whole}
 use Rattle.plate.proofs.run.Goals as goal

@@ -10,8 +10,8 @@ use Rattle.lanes.proofs.row_2bpp.lay_block_2bpp.Goals as goal
 use Rattle.lanes.proofs.row_2bpp.lay_block_2bpp.Goals.{In-loop-j}
 
 -- a row of the loop is one of four, and lies in the image
-row_in : (t : In-loop-j) → let l = t in let a = l.args in
-    (l.loop-j.j < 4) × (a.part.start + (l.loop-j.j * a.part.stride + a.part.width) ≤ length a.image.now)
+row_in : (t : In-loop-j) → let a = t.args in
+    (t.loop-j.j < 4) × (a.part.start + (t.loop-j.j * a.part.stride + a.part.width) ≤ length a.image.now)
 row_in t =
     let p = t.requires.fits in
     (omega (arith, t.loop-j-test.true, p.2), row-in-room p.0 t.loop-j.j t.loop-j-test.true)
