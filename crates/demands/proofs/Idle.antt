@@ -64,9 +64,7 @@ record Shades (two : Bool) (mode : GridMode) (order : ChannelOrder) : Type 0 whe
   pub between : picture_texel (below2 two mode order) red_corner (half two) 0 ≡ half_red order
 
 shades : (two : Bool) (mode : GridMode) (order : ChannelOrder) → Shades two mode order
-unfolding tab flags sum halvings log2 address beside weight4bpp punch4bpp stored2bpp weight2bpp fill2bpp word_of share nine_sum scale_color
-
-unfolding scale_alpha blended near filled mixed texel_in texel_at side_in
+unfolding tab flags sum halvings log2 address beside weight4bpp punch4bpp stored2bpp weight2bpp fill2bpp word_of share nine_sum scale_color scale_alpha blended near filled mixed texel_in texel_at side_in
 shades true Rust BlueFirst = record { red = refl; black = refl; upper = refl; lower = refl; between = refl }
 shades true Rust RedFirst = record { red = refl; black = refl; upper = refl; lower = refl; between = refl }
 shades false Rust BlueFirst = record { red = refl; black = refl; upper = refl; lower = refl; between = refl }

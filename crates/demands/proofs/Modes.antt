@@ -160,9 +160,7 @@ reds-are : (mode : GridMode) {new : List ℕ} → RowDecoded (ruby mode) red_cor
 reds-are mode w = tab-same _ _ 4 (λ x l. ap (λ (v : ℕ). v / 65536 % 256) (row_is (ruby mode) red_corner x 0 l w))
 
 computed : (ruby_reds Rust ≡ 255 ∷ 255 ∷ 255 ∷ 255 ∷ []) × (ruby_reds Stored ≡ 63 ∷ 95 ∷ 127 ∷ 95 ∷ [])
-unfolding tab flags sum halvings log2 address beside weight4bpp punch4bpp word_of share nine_sum scale_color scale_alpha blended near filled
-
-unfolding mixed texel_in texel_at side_in
+unfolding tab flags sum halvings log2 address beside weight4bpp punch4bpp word_of share nine_sum scale_color scale_alpha blended near filled mixed texel_in texel_at side_in
 computed = (refl, refl)
 
 pub red-corner : RedCorner

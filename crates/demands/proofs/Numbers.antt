@@ -11,7 +11,5 @@ use Rattle.demands.specs.Footprint.{insert, gathered, footprint}
 use Rattle.demands.specs.Numbers.{agrees, table}
 
 pub all-agree : T (every (λ _ l. agrees l) 0 table)
-unfolding sum tab halvings log2 address beside weight4bpp punch4bpp stored2bpp weight2bpp fill2bpp word_of flags share nine_sum scale_color
-
-unfolding scale_alpha blended near filled mixed texel_in texel_at insert gathered footprint
+unfolding sum tab halvings log2 address beside weight4bpp punch4bpp stored2bpp weight2bpp fill2bpp word_of flags share nine_sum scale_color scale_alpha blended near filled mixed texel_in texel_at insert gathered footprint
 all-agree = tt
