@@ -7,6 +7,7 @@ pub mod Numbers
 pub mod Or
 pub mod Order
 pub mod Powers
+pub mod Said
 pub mod Sum
 pub mod Tab
 pub mod Unique

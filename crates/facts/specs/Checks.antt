@@ -1,5 +1,6 @@
 -- Checks in an order: a call says the number of the first whose condition holds. Assumes nothing: these are definitions.
-use Rattle.std.specs.Prelude.{◌≡◌, Bool, true, false, cond, ◌&&◌, List, [], ◌∷◌, ℕ, ◌<◌, eqb, ltb, length, get_or}
+use Rattle.std.specs.Prelude.{◌≡◌, Bool, true, false, cond, ◌&&◌, List, [], ◌∷◌, ℕ, ◌<◌, eqb, ltb, length, get_or, Ok, Err}
+use Rattle.std.specs.Prelude.{Result}
 
 -- A condition, and the number that is said where it holds.
 pub record Check : Type 0 where
@@ -35,3 +36,12 @@ pub record Given (l : List Check) (n : ℕ) : Type 0 where
   pub number : (at l place).number ≡ n
   pub holds : (at l place).holds ≡ true
   pub none-earlier : (k : ℕ) → k < place → (at l k).holds ≡ false
+
+-- The number that an answer says, where `number` gives that of each reason to refuse: 0 where nothing is refused.
+abbrev pub number_said : {A E : Type 0} → (E → ℕ) → Result A E → ℕ
+number_said number (Ok x) = 0
+number_said number (Err f) = number f
+
+-- An answer says what a list of checks says.
+abbrev pub Says : {A E : Type 0} → (E → ℕ) → Result A E → List Check → Type 0
+Says number r l = number_said number r ≡ first_of l

@@ -1,0 +1,33 @@
+-- What an answer says, and what a list of checks says. Assumes nothing.
+use Rattle.std.proofs.Common.{◌≡◌, refl, sym, ap, ◌∙◌, ℕ, ◌<◌, List, ◌++◌, T, Ok, Err, arith}
+use Rattle.std.specs.Prelude.{Result}
+use Rattle.facts.specs.Checks.{Check, first_of, numbered, number_said, Says}
+use Rattle.facts.proofs.Checks.{said-first, said-later}
+
+-- where no reason to refuse has the number 0
+module _ {E : Type 0} (number : E → ℕ) (above : (f : E) → 0 < number f) where
+  module _ {A : Type 0} (l m : List Check) {r : Result A E} (t : T (numbered l)) (says : Says number r l) where
+    -- what a group of checks refuses is refused, whatever follows
+    pub stops : {f : E} → r ≡ Err f → number f ≡ first_of (l ++ m)
+    stops {f} e = said-first l m t (sym (ap (number_said number) e) ∙ says) (above f)
+
+    -- where it refuses nothing, what follows speaks
+    pub goes_on : {x : A} {n : ℕ} → r ≡ Ok x → n ≡ first_of m → n ≡ first_of (l ++ m)
+    goes_on e rest = said-later l m t (sym (ap (number_said number) e) ∙ says) rest
+
+  -- where no two reasons have the same number, answers that say the same number and give the same value are the same
+  module _ (one_to_one : (f g : E) → number f ≡ number g → f ≡ g) where
+    pub same-answer : {A : Type 0} (value : Result A E → A) → ((x : A) → value (Ok x) ≡ x)
+        → (r s : Result A E) → number_said number r ≡ number_said number s → value r ≡ value s → r ≡ s
+    same-answer value gives (Ok x) (Ok y) e q = ap Ok (sym (gives x) ∙ q ∙ gives y)
+    same-answer value gives (Ok x) (Err g) e q = absurd (omega (arith, above g, e))
+    same-answer value gives (Err f) (Ok y) e q = absurd (omega (arith, above f, e))
+    same-answer value gives (Err f) (Err g) e q = ap Err (one_to_one f g e)
+
+    -- so where there is no value, the number tells the answer
+    pub same-said : (r s : Result (Unit {0}) E) → number_said number r ≡ number_said number s → r ≡ s
+    same-said r s e = same-answer (λ _. tt) (λ _. refl) r s e refl
+
+    -- and one answer says what a list of checks says
+    pub one-said : (l : List Check) (r s : Result (Unit {0}) E) → Says number r l → Says number s l → r ≡ s
+    one-said l r s a b = same-said r s (a ∙ sym b)
