@@ -1,0 +1,106 @@
+// What the programs of the gate share that print listings: how depths, orders, modes and pictures are called there, what a picture needs,
+// and the block call of either name on a picture's description.
+#![tactic(auto)]
+
+ghost use Rattle.std.specs.Prelude.{◌≡◌, Some};
+ghost use Rattle.pvrtc.specs.Calls.{BlockDecoded};
+ghost use Rattle.listing.specs.Names.{depth_name, order_name, mode_name, shape_text, taken_need};
+
+use pixel::ChannelOrder;
+use pvrtc::{Decoded, GridMode, Picture};
+use std::fmt;
+
+// Each order of the channels: what is printed is so blue first, and then red first.
+pub const ORDERS: [ChannelOrder; 2] = [ChannelOrder::BlueFirst, ChannelOrder::RedFirst];
+
+// A depth, by whether it is 2bpp.
+#[derive(Clone, Copy)]
+pub struct Depth(pub bool);
+
+// An order, behind what it is said of: only red first is said.
+#[derive(Clone, Copy)]
+pub struct Order(pub ChannelOrder);
+
+// A mode.
+#[derive(Clone, Copy)]
+pub struct Mode(pub GridMode);
+
+// A picture's size, depth and order.
+#[derive(Clone, Copy)]
+pub struct Shape(pub Picture);
+
+impl fmt::Display for Depth {
+    ghost output = { λ d. Some (depth_name d.0) };
+
+    fn fmt<W: fmt::Write>(&self, f: &mut fmt::Formatter<W>) -> fmt::Result {
+        f.write_str(if self.0 { "2bpp" } else { "4bpp" })
+    }
+}
+
+impl fmt::Display for Order {
+    ghost output = { λ o. Some (order_name o.0) };
+
+    fn fmt<W: fmt::Write>(&self, f: &mut fmt::Formatter<W>) -> fmt::Result {
+        f.write_str(match self.0 {
+            ChannelOrder::BlueFirst => "",
+            ChannelOrder::RedFirst => ", red first",
+        })
+    }
+}
+
+impl fmt::Display for Mode {
+    ghost output = { λ m. Some (mode_name m.0) };
+
+    fn fmt<W: fmt::Write>(&self, f: &mut fmt::Formatter<W>) -> fmt::Result {
+        f.write_str(match self.0 {
+            GridMode::Rust => "Rust",
+            GridMode::Stored => "stored",
+        })
+    }
+}
+
+impl fmt::Display for Shape {
+    ghost output = { λ s. Some (shape_text s.0) };
+
+    fn fmt<W: fmt::Write>(&self, f: &mut fmt::Formatter<W>) -> fmt::Result {
+        let p = self.0;
+        write!(
+            f,
+            "{} x {}, {}{}",
+            p.width,
+            p.height,
+            Depth(p.is2bpp),
+            Order(p.order)
+        )
+    }
+}
+
+// The bytes that a picture's grid needs, or 0 for a grid that no call takes.
+pub fn need_of(p: Picture) -> usize
+    ensures { result ≡ taken_need p }
+{
+    let g = pvrtc::grid_of(p);
+    if g.across <= 65536 && g.down <= 65536 {
+        grid::need_of(g)
+    } else {
+        0
+    }
+}
+
+// The block call that is told the depth.
+pub fn decode_told(data: &[u8], p: Picture, image: &mut [u32]) -> Decoded
+    ensures { BlockDecoded p «data».now image.old image.new result }
+{
+    pvrtc::decode_pvrtc(data, p.width, p.height, image, p.is2bpp, p.mode, p.order)
+}
+
+// The block call that has the depth in its name.
+pub fn decode_named(data: &[u8], p: Picture, image: &mut [u32]) -> Decoded
+    ensures { BlockDecoded p «data».now image.old image.new result }
+{
+    if p.is2bpp {
+        pvrtc::decode_pvrtc_2bpp(data, p.width, p.height, image, p.mode, p.order)
+    } else {
+        pvrtc::decode_pvrtc_4bpp(data, p.width, p.height, image, p.mode, p.order)
+    }
+}
