@@ -1,6 +1,6 @@
 -- `pvrtc::row_call::decode_row` meets its contract. The loop keeps that the first x words are the row's texels, and what `InRow` says is held;
 -- it has too that no texel is refused. Assumes nothing.
-use Rattle.std.proofs.Common.{◌≡◌, refl, sym, ap, ap₂, ◌∙◌, ℕ, ◌/◌, ◌%◌, ◌≤◌, ◌<◌, length, arith}
+use Rattle.std.proofs.Common.{◌≡◌, ℕ, ◌/◌, ◌%◌, ◌<◌, ◌≤◌, length, sym, refl, ap, ◌∙◌, ap₂, arith}
 use Rattle.facts.proofs.Said.{at_exit}
 use Rattle.grid.specs.declared.Grid.{Grid}
 use Rattle.grid.specs.Grid.{block_width}

@@ -1,5 +1,5 @@
 -- `pvrtc::texel_call::decode_texel` meets its contract: a picture that passes the checks has the texel, and a refusal is told. Assumes nothing.
-use Rattle.std.proofs.Common.{sym, ap, ◌∙◌, length}
+use Rattle.std.proofs.Common.{length, sym, ap, ◌∙◌}
 use Rattle.facts.proofs.Said.{at_exit}
 use Rattle.grid.specs.declared.Grid.{Grid}
 use Rattle.pvrtc.proofs.Accepted.{accepted, stands-as, block-as, texel-inside}
