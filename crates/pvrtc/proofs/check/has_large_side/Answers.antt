@@ -1,5 +1,5 @@
 -- `pvrtc::check::has_large_side` meets its contract. Assumes nothing.
-use borrow.Author.Tests.{lt-ltb, le-ltb}
+use Rattle.std.proofs.Common.{le-ltb, lt-ltb}
 use Rattle.pvrtc.proofs.check.has_large_side.Goals as goal
 
 pub returns-then-p-gt65536 : goal.returns-then-p-gt65536

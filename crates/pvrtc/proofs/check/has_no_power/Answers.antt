@@ -1,6 +1,5 @@
 -- `pvrtc::check::has_no_power` meets its contract, side by side. Assumes nothing.
-use mathlib.Core.Bool.{not}
-use mathlib.Core.Path.{sym, ap, ◌∙◌}
+use Rattle.std.proofs.Common.{not, sym, ap, ◌∙◌}
 use Rattle.grid.specs.declared.Grid.{Grid}
 use Rattle.grid.specs.Grid.{is_power}
 use Rattle.facts.proofs.Or.{or-passed, or-taken}

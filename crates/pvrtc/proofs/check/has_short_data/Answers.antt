@@ -1,6 +1,5 @@
 -- `pvrtc::check::has_short_data` meets its contract: sides that are not large have few enough blocks. Assumes nothing.
-use mathlib.Core.Path.{ap, ◌∙◌}
-use lib.Dec.{ltb}
+use Rattle.std.proofs.Common.{ltb, ap, ◌∙◌}
 use Rattle.grid.specs.Words.{word_bytes}
 use Rattle.pvrtc.proofs.Accepted.{few-across, few-down}
 use Rattle.pvrtc.proofs.check.has_short_data.Goals as goal

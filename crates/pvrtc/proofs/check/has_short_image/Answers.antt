@@ -1,6 +1,5 @@
 -- `pvrtc::check::has_short_image` meets its contract, call by call. Assumes nothing.
-use native.Mathlib.Nat.{mul-le-mul}
-use native.Mathlib.Omega.{arith}
+use Rattle.std.proofs.Common.{mul-le-mul, arith}
 use Rattle.pvrtc.proofs.Accepted.{width_small, height-small}
 use Rattle.pvrtc.specs.Refusals.{short_image}
 use Rattle.pvrtc.proofs.check.has_short_image.Goals as goal

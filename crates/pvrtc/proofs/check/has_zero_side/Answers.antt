@@ -1,5 +1,5 @@
 -- `pvrtc::check::has_zero_side` meets its contract. Assumes nothing.
-use borrow.Author.Tests.{eq-eqb, ne_eqb}
+use Rattle.std.proofs.Common.{eq-eqb, ne_eqb}
 use Rattle.pvrtc.proofs.check.has_zero_side.Goals as goal
 
 pub returns-then-p-eq0 : goal.returns-then-p-eq0

@@ -1,6 +1,5 @@
 -- `pvrtc::plain::decode_block` meets its contract: `InPicture` has that the buffer laid is the block laid. Assumes nothing.
-use native.Mathlib.Nat.{mul-le-mul}
-use native.Mathlib.Omega.{arith}
+use Rattle.std.proofs.Common.{mul-le-mul, arith}
 use Rattle.pvrtc.proofs.InPicture.{buffer-laid}
 use Rattle.texel.proofs.Nine.{read}
 use Rattle.texel.proofs.Shares.{half_high}

@@ -1,7 +1,5 @@
 -- `pvrtc::plain::decode_block_row` meets its contract. The loop keeps that the first bx blocks of the row are laid. Assumes nothing.
-use mathlib.Core.Path.{◌≡◌, refl, ap, ◌∙◌}
-use Prim.Native.Nat.{ℕ, ◌+◌, ◌*◌, ◌<◌}
-use native.Mathlib.Omega.{arith}
+use Rattle.std.proofs.Common.{◌≡◌, ℕ, ◌+◌, ◌*◌, ◌<◌, refl, ap, ◌∙◌, arith}
 use Rattle.grid.specs.Grid.{block_width, blocks}
 use Rattle.grid.proofs.Counts.{wide, block_start, blocks-cover}
 use Rattle.paint.specs.Sheet.{columns_from}
