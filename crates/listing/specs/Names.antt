@@ -26,6 +26,9 @@ mode_name mode.Stored = codes "stored"
 abbrev pub shape_text : Picture → List ℕ
 shape_text p = decimal p.width ++ (codes " x " ++ (decimal p.height ++ (codes ", " ++ (depth_name p.is2bpp ++ order_name p.order))))
 
+abbrev pub answer_text : (number sum : ℕ) → List ℕ
+answer_text number sum = decimal number ++ (codes ", sum " ++ decimal sum)
+
 -- The bytes that a picture needs, or 0 where its grid has more blocks one way than any call takes.
 abbrev pub taken_need : Picture → ℕ
 taken_need p = cond (leb (grid_of p).across 65536 && leb (grid_of p).down 65536) (need p) 0

@@ -2,16 +2,23 @@
 // and the block call of either name on a picture's description.
 #![tactic(auto)]
 
-ghost use Rattle.std.specs.Prelude.{◌≡◌, Some};
+ghost use Rattle.std.specs.Prelude.{◌≡◌, length, Result, Some};
+ghost use Rattle.std.specs.Fn.{FnOnceReturnsAtMut};
+ghost use Rattle.facts.specs.Checks.{number_said};
+ghost use Rattle.samples.specs.Sums.{checksum};
 ghost use Rattle.pvrtc.specs.Calls.{BlockDecoded};
-ghost use Rattle.listing.specs.Names.{depth_name, order_name, mode_name, shape_text, taken_need};
+ghost use Rattle.listing.specs.Names.{depth_name, order_name, mode_name, shape_text, answer_text, taken_need};
 
+use facts::Numbered;
 use pixel::ChannelOrder;
-use pvrtc::{Decoded, GridMode, Picture};
+use pvrtc::{GridMode, Picture, Refusal};
 use std::fmt;
 
 // Each order of the channels: what is printed is so blue first, and then red first.
 pub const ORDERS: [ChannelOrder; 2] = [ChannelOrder::BlueFirst, ChannelOrder::RedFirst];
+
+// Each mode of a picture's grid.
+pub const MODES: [GridMode; 2] = [GridMode::Rust, GridMode::Stored];
 
 // A depth, by whether it is 2bpp.
 #[derive(Clone, Copy)]
@@ -28,6 +35,13 @@ pub struct Mode(pub GridMode);
 // A picture's size, depth and order.
 #[derive(Clone, Copy)]
 pub struct Shape(pub Picture);
+
+// What a call that writes into lent words answers: the number of the refusal, 0 for none, and the sum over every lent word afterwards.
+#[derive(Clone, Copy, PartialEq, Eq)]
+pub struct Answer {
+    pub number: u64,
+    pub sum: u64,
+}
 
 impl fmt::Display for Depth {
     ghost output = { λ d. Some (depth_name d.0) };
@@ -75,6 +89,29 @@ impl fmt::Display for Shape {
     }
 }
 
+impl fmt::Display for Answer {
+    ghost output = { λ a. Some (answer_text a.number a.sum) };
+
+    fn fmt<W: fmt::Write>(&self, f: &mut fmt::Formatter<W>) -> fmt::Result {
+        let (number, sum) = (self.number, self.sum);
+        write!(f, "{number}, sum {sum}")
+    }
+}
+
+// Makes a call that writes into lent words.
+pub fn answer_of<E: Numbered, F: FnOnce(&mut [u32]) -> Result<(), E>>(
+    words: &mut [u32],
+    decode: F,
+) -> Answer
+    requires { F.IsAlwaysCallable decode }
+    ensures called { (r : Result (Unit {0}) E) × FnOnceReturnsAtMut F.FnOnce decode words.old r words.new × (result.number ≡ number_said E.number r) }
+    ensures summed { result.sum ≡ checksum 1103515245 8589934583 words.new (length words.new) }
+{
+    let number = facts::number_said(decode(words));
+    let sum = samples::sum_of_words(words);
+    Answer { number, sum }
+}
+
 // The bytes that a picture's grid needs, or 0 for a grid that no call takes.
 pub fn need_of(p: Picture) -> usize
     ensures { result ≡ taken_need p }
@@ -88,14 +125,14 @@ pub fn need_of(p: Picture) -> usize
 }
 
 // The block call that is told the depth.
-pub fn decode_told(data: &[u8], p: Picture, image: &mut [u32]) -> Decoded
+pub fn decode_told(data: &[u8], p: Picture, image: &mut [u32]) -> Result<(), Refusal>
     ensures { BlockDecoded p «data».now image.old image.new result }
 {
     pvrtc::decode_pvrtc(data, p.width, p.height, image, p.is2bpp, p.mode, p.order)
 }
 
 // The block call that has the depth in its name.
-pub fn decode_named(data: &[u8], p: Picture, image: &mut [u32]) -> Decoded
+pub fn decode_named(data: &[u8], p: Picture, image: &mut [u32]) -> Result<(), Refusal>
     ensures { BlockDecoded p «data».now image.old image.new result }
 {
     if p.is2bpp {

@@ -7,7 +7,7 @@ mod tables;
 
 use listing::{ORDERS, Shape};
 use pixel::ChannelOrder;
-use pvrtc::{Decoded, GridMode, Picture};
+use pvrtc::{GridMode, Picture, Refusal};
 use std::fmt::Display;
 use std::io;
 use std::io::Write;
@@ -37,7 +37,7 @@ impl<'a> Case<'a> {
 
     // The lines of one call: blue first, and then red first on the same words as they were before. Each has the call's name, what it gets,
     // its answer, and the sum over the lent words afterwards. As in all of these, what is returned is the generator's state afterwards.
-    fn print<F: Fn(&[u8], Picture, &mut [u32]) -> Decoded>(
+    fn print<F: Fn(&[u8], Picture, &mut [u32]) -> Result<(), Refusal>>(
         self,
         out: &mut impl Write,
         name: impl Display + Drop,
@@ -52,12 +52,9 @@ impl<'a> Case<'a> {
         for order in ORDERS {
             let picture = pvrtc::in_order(self.picture, order);
             reached = samples::draw_words(words, self.state);
-            let number = number_of(decode(self.data, picture, words));
-            let (shape, sum) = (Shape(picture), samples::sum_of_words(words));
-            writeln!(
-                out,
-                "{name} {shape}, {bytes} bytes, {lent} words: {number}, sum {sum}"
-            )?;
+            let answer = listing::answer_of(words, |words| decode(self.data, picture, words));
+            let shape = Shape(picture);
+            writeln!(out, "{name} {shape}, {bytes} bytes, {lent} words: {answer}")?;
         }
         Ok(reached)
     }
@@ -75,14 +72,6 @@ impl<'a> Case<'a> {
         self.print(out, format_args!("row {y} of"), |data, picture, row| {
             pvrtc::decode_row(data, picture, y, row)
         })
-    }
-}
-
-// The number of the refusal, 0 for none.
-fn number_of(answer: Decoded) -> u64 {
-    match answer {
-        Decoded::Done => 0,
-        Decoded::Refused(f) => pvrtc::refusal_number(f),
     }
 }
 

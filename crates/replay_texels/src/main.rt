@@ -5,9 +5,10 @@
 
 mod tables;
 
+use facts::Numbered;
 use listing::{ORDERS, Shape};
 use pixel::ChannelOrder;
-use pvrtc::{GridMode, Picture, Texel};
+use pvrtc::{GridMode, Picture, Refusal};
 use std::io::Write;
 use std::{fmt, io};
 use tables::Kind;
@@ -21,7 +22,7 @@ struct Lent<'a> {
 
 // The answer of one texel call: a word as eight hexadecimal digits, or the number of the refusal.
 #[derive(Clone, Copy)]
-struct Answer(Texel);
+struct Answer(Result<u32, Refusal>);
 
 impl Lent<'_> {
     fn texel(self, x: usize, y: usize) -> Answer {
@@ -32,8 +33,8 @@ impl Lent<'_> {
 impl fmt::Display for Answer {
     fn fmt<W: fmt::Write>(&self, f: &mut fmt::Formatter<W>) -> fmt::Result {
         match self.0 {
-            Texel::Word(word) => write!(f, "{word:08x}"),
-            Texel::Refused(refusal) => write!(f, "refused {}", pvrtc::refusal_number(refusal)),
+            Ok(word) => write!(f, "{word:08x}"),
+            Err(refusal) => write!(f, "refused {}", refusal.number()),
         }
     }
 }
