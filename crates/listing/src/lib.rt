@@ -2,11 +2,16 @@
 // and the block call of either name on a picture's description.
 #![tactic(auto)]
 
-ghost use Rattle.std.specs.Prelude.{◌≡◌, length, Result, Some};
+ghost use Rattle.std.specs.Prelude.{◌≡◌, ◌*◌, length, min, Result, Some};
 ghost use Rattle.std.specs.Fn.{FnOnceReturnsAtMut};
 ghost use Rattle.facts.specs.Checks.{number_said};
+ghost use Rattle.samples.specs.Draw.{state_after};
 ghost use Rattle.samples.specs.Sums.{checksum};
+ghost use Rattle.pixel.specs.declared.ChannelOrder.TheVariants as order;
 ghost use Rattle.pvrtc.specs.Calls.{BlockDecoded};
+ghost use Rattle.pvrtc.specs.Picture.{picture};
+ghost use Rattle.pvrtc.specs.declared.GridMode.TheVariants as mode;
+ghost use Rattle.listing.specs.Made.{drawn_words, Made};
 ghost use Rattle.listing.specs.Names.{depth_name, order_name, mode_name, shape_text, answer_text, taken_need};
 
 use facts::Numbered;
@@ -112,6 +117,52 @@ pub fn answer_of<E: Numbered, F: FnOnce(&mut [u32]) -> Result<(), E>>(
     Answer { number, sum }
 }
 
+// What a call gets: a picture, lent bytes, and so many lent words, of at most 8,256, which the generator draws from a state on.
+#[derive(Clone, Copy)]
+pub struct Case<'a> {
+    pub picture: Picture,
+    pub data: &'a [u8],
+    pub words: usize,
+    pub state: u64,
+}
+
+impl Case<'_> {
+    // Makes a call.
+    pub fn answer<F: Fn(&[u8], Picture, &mut [u32]) -> Result<(), Refusal>>(
+        self,
+        decode: F,
+    ) -> Answer
+        requires { F.IsAlwaysCallable decode }
+        ensures { Made (F.post decode) self.entry.«data».now self.entry.picture (drawn_words self.entry.words self.entry.state) result.number result.sum }
+    {
+        let mut room = [0; 8256];
+        let words = &mut room[..self.words.min(8256)];
+        samples::draw_words(words, self.state);
+        answer_of(words, |words| decode(self.data, self.picture, words))
+    }
+
+    // The generator's state after the lent words.
+    pub fn state_after(self) -> u64
+        ensures { result ≡ state_after self.entry.state (2 * min self.entry.words 8256) }
+    {
+        let mut room = [0; 8256];
+        samples::draw_words(&mut room[..self.words.min(8256)], self.state)
+    }
+}
+
+// A picture in the Rust's mode, and in its order.
+pub fn blue_first(width: usize, height: usize, is2bpp: bool) -> Picture
+    ensures { result ≡ picture width height is2bpp mode.Rust order.BlueFirst }
+{
+    pvrtc::picture_of(
+        width,
+        height,
+        is2bpp,
+        GridMode::Rust,
+        ChannelOrder::BlueFirst,
+    )
+}
+
 // The bytes that a picture's grid needs, or 0 for a grid that no call takes.
 pub fn need_of(p: Picture) -> usize
     ensures { result ≡ taken_need p }
@@ -140,4 +191,11 @@ pub fn decode_named(data: &[u8], p: Picture, image: &mut [u32]) -> Result<(), Re
     } else {
         pvrtc::decode_pvrtc_4bpp(data, p.width, p.height, image, p.mode, p.order)
     }
+}
+
+// The plain form, as a function that can be passed on by its name.
+pub fn decode_plain(data: &[u8], p: Picture, image: &mut [u32]) -> Result<(), Refusal>
+    ensures { BlockDecoded p «data».now image.old image.new result }
+{
+    pvrtc::decode_pvrtc_plain(data, p, image)
 }

@@ -6,20 +6,15 @@
 mod tables;
 
 use facts::Numbered;
-use listing::{Answer, Depth, MODES, Mode, ORDERS, Order};
+use listing::{Case, Depth, MODES, Mode, ORDERS, Order};
 use pixel::ChannelOrder;
 use pvrtc::{GridMode, Picture, Refusal};
 use std::io::Write;
 use std::{fmt, io};
 
-// What a call gets: a picture, lent bytes, and so many lent words, of at most 4,105, which the generator draws from a state on.
+// A case's name: the depth, the mode, the size, the order and how many bytes are lent.
 #[derive(Clone, Copy)]
-struct Case<'a> {
-    picture: Picture,
-    data: &'a [u8],
-    words: usize,
-    state: u64,
-}
+struct Name<'a>(Case<'a>);
 
 // Whether another way answers the same, on the same bytes and words.
 #[derive(Clone, Copy)]
@@ -36,23 +31,11 @@ struct Call {
     y: usize,
 }
 
-impl Case<'_> {
-    fn answer<F: Fn(&[u8], Picture, &mut [u32]) -> Result<(), Refusal>>(self, decode: F) -> Answer
-        requires { F.IsAlwaysCallable decode }
-    {
-        let mut room = [0; 4105];
-        let words = &mut room[..self.words.min(4105)];
-        samples::draw_words(words, self.state);
-        listing::answer_of(words, |words| decode(self.data, self.picture, words))
-    }
-}
-
-// The depth, the mode, the size, the order and how many bytes are lent.
-impl fmt::Display for Case<'_> {
+impl fmt::Display for Name<'_> {
     fn fmt<W: fmt::Write>(&self, f: &mut fmt::Formatter<W>) -> fmt::Result {
-        let p = self.picture;
+        let p = self.0.picture;
         let (depth, mode, order) = (Depth(p.is2bpp), Mode(p.mode), Order(p.order));
-        let (width, height, bytes) = (p.width, p.height, self.data.len());
+        let (width, height, bytes) = (p.width, p.height, self.0.data.len());
         write!(f, "{depth} {mode} {width} x {height}{order}, bytes {bytes}")
     }
 }
@@ -145,18 +128,15 @@ fn print_picture(
     };
     let told = case.answer(listing::decode_told);
     let named = Same(case.answer(listing::decode_named) == told);
-    let plain = Same(case.answer(decode_plain) == told);
+    let plain = Same(case.answer(listing::decode_plain) == told);
     let rows = Same(case.answer(decode_rows) == told);
     let texels = Same(case.answer(decode_texels) == told);
     let less = short.answer(listing::decode_told).number;
     writeln!(
         out,
-        "{case}: {told}; named {named}, plain {plain}, rows {rows}, texels {texels}; a byte less: {less}"
+        "{}: {told}; named {named}, plain {plain}, rows {rows}, texels {texels}; a byte less: {less}",
+        Name(case)
     )
-}
-
-fn decode_plain(data: &[u8], p: Picture, words: &mut [u32]) -> Result<(), Refusal> {
-    pvrtc::decode_pvrtc_plain(data, p, words)
 }
 
 fn decode_rows(data: &[u8], p: Picture, words: &mut [u32]) -> Result<(), Refusal> {
@@ -225,14 +205,14 @@ fn print_one_colour(out: &mut impl Write) -> io::Result<()> {
             let picture = pvrtc::picture_of(1, 1, is2bpp, GridMode::Rust, order);
             let mut words = [0];
             let _ = listing::decode_told(&data, picture, &mut words);
-            let case = Case {
+            let name = Name(Case {
                 picture,
                 data: &data,
                 words: 1,
                 state: 1,
-            };
+            });
             let [first, second, third, fourth] = words[0].to_le_bytes();
-            writeln!(out, "one colour, {case}: {first} {second} {third} {fourth}")?;
+            writeln!(out, "one colour, {name}: {first} {second} {third} {fourth}")?;
         }
     }
     Ok(())
@@ -281,14 +261,14 @@ fn print_call(out: &mut impl Write, call: Call, data: &[u8]) -> io::Result<()> {
 
 // The picture by the block call and by its other forms; then row y, and texel (x, y).
 fn print_answers(out: &mut impl Write, case: Case, x: usize, y: usize) -> io::Result<()> {
-    let words = case.words;
+    let (name, words) = (Name(case), case.words);
     let told = case.answer(listing::decode_told);
     let named = Same(case.answer(listing::decode_named) == told);
-    let plain = Same(case.answer(decode_plain) == told);
+    let plain = Same(case.answer(listing::decode_plain) == told);
     let row = case.answer(|data, picture, row| pvrtc::decode_row(data, picture, y, row));
     write!(
         out,
-        "call {case}, words {words}: {told}; named {named}, plain {plain}; row {y}: {row}; texel {x}: "
+        "call {name}, words {words}: {told}; named {named}, plain {plain}; row {y}: {row}; texel {x}: "
     )?;
     match pvrtc::decode_texel(case.data, case.picture, x, y) {
         Ok(word) => writeln!(out, "word {word}"),

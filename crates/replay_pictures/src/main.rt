@@ -5,74 +5,49 @@
 
 mod tables;
 
-use listing::{ORDERS, Shape};
-use pixel::ChannelOrder;
-use pvrtc::{GridMode, Picture, Refusal};
+use listing::{Case, ORDERS, Shape};
+use pvrtc::{Picture, Refusal};
 use std::fmt::Display;
 use std::io;
 use std::io::Write;
 
-// What a call gets: a picture, lent bytes, and so many lent words, of at most 8,256, which the generator draws from a state on.
-#[derive(Clone, Copy)]
-struct Case<'a> {
-    picture: Picture,
-    data: &'a [u8],
-    words: usize,
-    state: u64,
+// The lines of one call: blue first, and then red first on the same words as they were before. Each has the call's name, what it gets, its
+// answer, and the sum over the lent words afterwards. As in all of these, what is returned is the generator's state afterwards.
+fn print_call<F: Fn(&[u8], Picture, &mut [u32]) -> Result<(), Refusal>>(
+    out: &mut impl Write,
+    case: Case,
+    name: impl Display + Drop,
+    decode: F,
+) -> io::Result<u64>
+    requires { F.IsAlwaysCallable decode }
+{
+    let (bytes, words) = (case.data.len(), case.words);
+    for order in ORDERS {
+        let picture = pvrtc::in_order(case.picture, order);
+        let answer = Case { picture, ..case }.answer(&decode);
+        let shape = Shape(picture);
+        writeln!(
+            out,
+            "{name} {shape}, {bytes} bytes, {words} words: {answer}"
+        )?;
+    }
+    Ok(case.state_after())
 }
 
-impl<'a> Case<'a> {
-    // A picture with drawn data, as long as it needs, and so many words and nine more.
-    fn drawn(picture: Picture, words: usize, room: &'a mut [u8], state: u64) -> Self {
-        let need = listing::need_of(picture).min(room.len());
-        let data = &mut room[..need];
-        let state = samples::draw_bytes(data, state);
-        Case {
-            picture,
-            data,
-            words: words.saturating_add(9),
-            state,
-        }
-    }
+// The call that is told the depth, and the plain form.
+fn print_both(out: &mut impl Write, case: Case) -> io::Result<u64> {
+    print_call(out, case, "picture", listing::decode_told)?;
+    print_call(out, case, "plain", listing::decode_plain)
+}
 
-    // The lines of one call: blue first, and then red first on the same words as they were before. Each has the call's name, what it gets,
-    // its answer, and the sum over the lent words afterwards. As in all of these, what is returned is the generator's state afterwards.
-    fn print<F: Fn(&[u8], Picture, &mut [u32]) -> Result<(), Refusal>>(
-        self,
-        out: &mut impl Write,
-        name: impl Display + Drop,
-        decode: F,
-    ) -> io::Result<u64>
-        requires { F.IsAlwaysCallable decode }
-    {
-        let mut room = [0; 8256];
-        let words = &mut room[..self.words.min(8256)];
-        let (bytes, lent) = (self.data.len(), words.len());
-        let mut reached = self.state;
-        for order in ORDERS {
-            let picture = pvrtc::in_order(self.picture, order);
-            reached = samples::draw_words(words, self.state);
-            let answer = listing::answer_of(words, |words| decode(self.data, picture, words));
-            let shape = Shape(picture);
-            writeln!(out, "{name} {shape}, {bytes} bytes, {lent} words: {answer}")?;
-        }
-        Ok(reached)
-    }
-
-    // The call that is told the depth, and the plain form.
-    fn print_both(self, out: &mut impl Write) -> io::Result<u64> {
-        self.print(out, "picture", listing::decode_told)?;
-        self.print(out, "plain", |data, picture, words| {
-            pvrtc::decode_pvrtc_plain(data, picture, words)
-        })
-    }
-
-    // The call for row y.
-    fn print_row(self, out: &mut impl Write, y: usize) -> io::Result<u64> {
-        self.print(out, format_args!("row {y} of"), |data, picture, row| {
-            pvrtc::decode_row(data, picture, y, row)
-        })
-    }
+// The call for row y.
+fn print_row(out: &mut impl Write, case: Case, y: usize) -> io::Result<u64> {
+    print_call(
+        out,
+        case,
+        format_args!("row {y} of"),
+        |data, picture, row| pvrtc::decode_row(data, picture, y, row),
+    )
 }
 
 // The pictures, then the rows, for which the generator runs on; then the calls at each depth.
@@ -105,7 +80,8 @@ fn print_sides(out: &mut impl Write, is2bpp: bool, state: u64) -> io::Result<u64
     for height in 1..9 {
         for width in 1..9 {
             let mut room = [0; 2048];
-            reached = whole((width, height), is2bpp, &mut room, reached).print_both(out)?;
+            let case = whole((width, height), is2bpp, &mut room, reached);
+            reached = print_both(out, case)?;
         }
     }
     Ok(reached)
@@ -121,7 +97,8 @@ fn print_pictures(
     let mut reached = state;
     for size in sizes {
         let mut room = [0; 2048];
-        reached = whole(*size, is2bpp, &mut room, reached).print_both(out)?;
+        let case = whole(*size, is2bpp, &mut room, reached);
+        reached = print_both(out, case)?;
     }
     Ok(reached)
 }
@@ -137,16 +114,29 @@ fn print_named(
     for size in sizes {
         let mut room = [0; 2048];
         let case = whole(*size, is2bpp, &mut room, reached);
-        case.print_both(out)?;
-        reached = case.print(out, "named", listing::decode_named)?;
+        print_both(out, case)?;
+        reached = print_call(out, case, "named", listing::decode_named)?;
     }
     Ok(reached)
 }
 
+// A picture with drawn data, as long as it needs, and so many words and nine more.
+fn drawn(picture: Picture, words: usize, room: &mut [u8], state: u64) -> Case<'_> {
+    let need = listing::need_of(picture).min(room.len());
+    let data = &mut room[..need];
+    let state = samples::draw_bytes(data, state);
+    Case {
+        picture,
+        data,
+        words: words.saturating_add(9),
+        state,
+    }
+}
+
 // All of a picture with drawn data.
 fn whole((width, height): (usize, usize), is2bpp: bool, room: &mut [u8], state: u64) -> Case<'_> {
-    let picture = blue_first(width, height, is2bpp);
-    Case::drawn(picture, width.saturating_mul(height), room, state)
+    let picture = listing::blue_first(width, height, is2bpp);
+    drawn(picture, width.saturating_mul(height), room, state)
 }
 
 // All rows of pictures of the listed sizes.
@@ -159,29 +149,18 @@ fn print_rows(
     let mut reached = state;
     for (width, height) in sizes {
         let mut room = [0; 256];
-        let picture = blue_first(*width, *height, is2bpp);
-        let case = Case::drawn(picture, *width, &mut room, reached);
+        let picture = listing::blue_first(*width, *height, is2bpp);
+        let case = drawn(picture, *width, &mut room, reached);
         reached = case.state;
         for y in 0..*height {
-            reached = Case {
+            let case = Case {
                 state: reached,
                 ..case
-            }
-            .print_row(out, y)?;
+            };
+            reached = print_row(out, case, y)?;
         }
     }
     Ok(reached)
-}
-
-// A picture in the Rust's mode, and in its order.
-fn blue_first(width: usize, height: usize, is2bpp: bool) -> Picture {
-    pvrtc::picture_of(
-        width,
-        height,
-        is2bpp,
-        GridMode::Rust,
-        ChannelOrder::BlueFirst,
-    )
 }
 
 // The calls at one depth. All get the same bytes and words, as far as they reach, so that the same picture has the same sum.
@@ -195,8 +174,14 @@ fn print_calls(out: &mut impl Write, is2bpp: bool) -> io::Result<()> {
 fn print_listed_calls(out: &mut impl Write, data: &[u8], is2bpp: bool) -> io::Result<()> {
     print_picture_calls(out, &tables::PICTURE_CALLS, data, is2bpp)?;
     for side in 1..19 {
-        listed(data, 96, 80, blue_first(side, 4, is2bpp)).print_both(out)?;
-        listed(data, 96, 80, blue_first(4, side, is2bpp)).print_both(out)?;
+        print_both(
+            out,
+            listed(data, 96, 80, listing::blue_first(side, 4, is2bpp)),
+        )?;
+        print_both(
+            out,
+            listed(data, 96, 80, listing::blue_first(4, side, is2bpp)),
+        )?;
     }
     print_row_calls(out, &tables::ROW_CALLS, data, is2bpp)?;
     print_picture_calls(out, &tables::TALL_PICTURE_CALLS, data, is2bpp)
@@ -211,7 +196,8 @@ fn print_picture_calls(
 ) -> io::Result<()> {
     for [bytes, words, at4bpp, at2bpp, height] in calls {
         let width = if is2bpp { *at2bpp } else { *at4bpp };
-        listed(data, *bytes, *words, blue_first(width, *height, is2bpp)).print_both(out)?;
+        let picture = listing::blue_first(width, *height, is2bpp);
+        print_both(out, listed(data, *bytes, *words, picture))?;
     }
     Ok(())
 }
@@ -225,7 +211,8 @@ fn print_row_calls(
 ) -> io::Result<()> {
     for [bytes, words, at4bpp, at2bpp, height, y] in calls {
         let width = if is2bpp { *at2bpp } else { *at4bpp };
-        listed(data, *bytes, *words, blue_first(width, *height, is2bpp)).print_row(out, *y)?;
+        let picture = listing::blue_first(width, *height, is2bpp);
+        print_row(out, listed(data, *bytes, *words, picture), *y)?;
     }
     Ok(())
 }

@@ -7,8 +7,7 @@ mod tables;
 
 use facts::Numbered;
 use listing::{ORDERS, Shape};
-use pixel::ChannelOrder;
-use pvrtc::{GridMode, Picture, Refusal};
+use pvrtc::{Picture, Refusal};
 use std::io::Write;
 use std::{fmt, io};
 use tables::Kind;
@@ -59,21 +58,15 @@ fn print_sizes(
     let mut reached = state;
     for (width, height) in sizes {
         for kind in &tables::KINDS {
-            reached = print_picture(out, blue_first(*width, *height, is2bpp), kind, reached)?;
+            reached = print_picture(
+                out,
+                listing::blue_first(*width, *height, is2bpp),
+                kind,
+                reached,
+            )?;
         }
     }
     Ok(reached)
-}
-
-// A picture in the Rust's mode, and in its order.
-fn blue_first(width: usize, height: usize, is2bpp: bool) -> Picture {
-    pvrtc::picture_of(
-        width,
-        height,
-        is2bpp,
-        GridMode::Rust,
-        ChannelOrder::BlueFirst,
-    )
 }
 
 // One picture's texels at the chosen places, after its data is drawn and its words are made of a kind: in each order.
@@ -156,17 +149,17 @@ fn print_calls(out: &mut impl Write, is2bpp: bool) -> io::Result<()> {
     let width = if is2bpp { 16 } else { 8 };
     print_call(
         out,
-        blue_first(width, 8, is2bpp),
+        listing::blue_first(width, 8, is2bpp),
         first(&data, 31),
         width,
         8,
     )?;
     // Up to nine blocks across, and one down; then down, and one across.
     for width in 1..34 {
-        print_call(out, blue_first(width, 4, is2bpp), &data, 0, 0)?;
+        print_call(out, listing::blue_first(width, 4, is2bpp), &data, 0, 0)?;
     }
     for height in 1..34 {
-        print_call(out, blue_first(4, height, is2bpp), &data, 0, 0)?;
+        print_call(out, listing::blue_first(4, height, is2bpp), &data, 0, 0)?;
     }
     print_listed(out, &tables::OUTSIDE, is2bpp, &data)
 }
@@ -182,7 +175,7 @@ fn print_listed(
         let width = if is2bpp { *at2bpp } else { *at4bpp };
         print_call(
             out,
-            blue_first(width, *height, is2bpp),
+            listing::blue_first(width, *height, is2bpp),
             first(data, *bytes),
             *x,
             *y,
