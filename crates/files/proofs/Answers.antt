@@ -3,9 +3,10 @@ use mathlib.Core.Path.{◌≡◌, refl, sym, ap, ◌∙◌}
 use mathlib.Core.Bool.{Bool, true, false, cond, ◌&&◌}
 use mathlib.Core.List.{List, [], ◌∷◌}
 use Prim.Native.Nat.{ℕ, ◌<◌}
+use native.Mathlib.Omega.{arith}
 use lib.Dec.{T, ltb, ltb→lt, lt→ltb}
 use Rattle.std.specs.Prelude.{Result, Ok, Err}
-use Rattle.facts.specs.Checks.{Check, first_of}
+use Rattle.facts.specs.Checks.{Check, check, first_of}
 use Rattle.facts.proofs.Finite.{and_left, and_right}
 use Rattle.facts.proofs.Said.{same-answer}
 use Rattle.files.specs.Reading.{Says, Shown}
@@ -41,6 +42,24 @@ module _ {E : Type 0} {number : E → ℕ} {s : Says} where
     pub one-shown : (q r : Result Stored E) → Shown number s q → Shown number s r → q ≡ r
     one-shown q r a b =
         same-answer number above one_to_one (plate_or s.plate) (λ p. refl) q r (a.refusal ∙ sym b.refusal) (the-plate q a ∙ sym (the-plate r b))
+
+-- a check made by itself, of a condition that is the list's: past one that refuses nothing what the rest says is said, and of one that refuses its number
+module _ {holds b : Bool} {n : ℕ} (k : ℕ) (l : List Check) (e : holds ≡ b) where
+  pub past : 0 < k → 0 ≡ first_of (check holds k ∷ []) → n ≡ first_of l → n ≡ first_of (check b k ∷ l)
+  unfolding first_of
+  past h none q = rw (← e) (by holds none)
+    where
+      by : (t : Bool) → 0 ≡ cond t k 0 → n ≡ cond t k (first_of l)
+      by true z = absurd (omega (arith, z))
+      by false z = q
+
+  pub stopped : 0 < n → n ≡ first_of (check holds k ∷ []) → n ≡ first_of (check b k ∷ l)
+  unfolding first_of
+  stopped h said = rw (← e) (by holds said)
+    where
+      by : (t : Bool) → n ≡ cond t k 0 → n ≡ cond t k (first_of l)
+      by true z = z
+      by false z = absurd (omega (arith, z))
 
 -- whether all numbers of a list pass a test
 abbrev pub numbers_pass : (test : ℕ → Bool) → List Check → Bool
