@@ -4,7 +4,7 @@ use mathlib.Core.Path.{◌≡◌, ap}
 use Prim.Native.Nat.{ℕ}
 use native.Mathlib.Omega.{arith}
 use lib.Dec.{eqb}
-use Rattle.std.proofs.lemmas.Result.{err_from_is_err_and}
+use Rattle.facts.proofs.Said.{at_exit}
 use Rattle.files.proofs.Answers.{past, stopped}
 use Rattle.pvr.specs.Numbers.{number-above}
 use Rattle.pvr.proofs.check_counts.Goals as goal
@@ -14,20 +14,17 @@ not-one = ap (λ (v : ℕ). not (eqb v 1))
 
 pub returns-in_err-refuse_if : goal.returns-in_err-refuse_if
 returns-in_err-refuse_if c =
-    let p = err_from_is_err_and c.from_residual.result c.from_residual.ensures.1 in
-    rw (p.1, p.2) (stopped _ _ (not-one c.u32_at.ensures.0) (number-above _) c.in_err-refuse_if.ensures)
+    rw (at_exit c.from_residual.ensures) (stopped _ _ (not-one c.u32_at.ensures.0) (number-above _) c.in_err-refuse_if.ensures)
 
 pub returns-in_err-refuse_if-2 : goal.returns-in_err-refuse_if-2
 returns-in_err-refuse_if-2 c =
-    let p = err_from_is_err_and c.from_residual-in_err-refuse_if-2.result c.from_residual-in_err-refuse_if-2.ensures.1 in
-    rw (p.1, p.2)
+    rw (at_exit c.from_residual-in_err-refuse_if-2.ensures)
     (past _ _ (not-one c.u32_at.ensures.0) (omega arith) c.in_ok-refuse_if.ensures
     (stopped _ _ (not-one c.u32_at-2.ensures.0) (number-above _) c.in_err-refuse_if-2.ensures))
 
 pub returns-in_err-refuse_if-3 : goal.returns-in_err-refuse_if-3
 returns-in_err-refuse_if-3 c =
-    let p = err_from_is_err_and c.from_residual-in_err-refuse_if-3.result c.from_residual-in_err-refuse_if-3.ensures.1 in
-    rw (p.1, p.2)
+    rw (at_exit c.from_residual-in_err-refuse_if-3.ensures)
     (past _ _ (not-one c.u32_at.ensures.0) (omega arith) c.in_ok-refuse_if.ensures
     (past _ _ (not-one c.u32_at-2.ensures.0) (omega arith) c.in_ok-refuse_if-2.ensures
     (stopped _ _ (not-one c.u32_at-3.ensures.0) (number-above _) c.in_err-refuse_if-3.ensures)))

@@ -4,7 +4,7 @@ use mathlib.Core.Path.{◌≡◌, refl, sym, ap, ◌∙◌}
 use Prim.Native.Nat.{ℕ}
 use native.Mathlib.Omega.{arith}
 use lib.Dec.{ltb}
-use Rattle.std.proofs.lemmas.Result.{err_from_is_err_and}
+use Rattle.facts.proofs.Said.{at_exit}
 use Rattle.files.proofs.Answers.{past, stopped}
 use Rattle.pvr.specs.Header.{known_flags, header_refusal}
 use Rattle.pvr.specs.Numbers.{number-above}
@@ -13,21 +13,18 @@ use Rattle.pvr.proofs.read_header.Goals as goal
 
 pub returns-in_err-refuse_if : goal.returns-in_err-refuse_if
 returns-in_err-refuse_if c =
-    let p = err_from_is_err_and c.from_residual.result c.from_residual.ensures.1 in
-    rw (p.1, p.2) (by-refusal (stopped _ _ refl (number-above _) c.in_err-refuse_if.ensures))
+    rw (at_exit c.from_residual.ensures) (by-refusal (stopped _ _ refl (number-above _) c.in_err-refuse_if.ensures))
 
 pub returns-in_err-refuse_if-2 : goal.returns-in_err-refuse_if-2
 returns-in_err-refuse_if-2 c =
-    let p = err_from_is_err_and c.from_residual-in_err-refuse_if-2.result c.from_residual-in_err-refuse_if-2.ensures.1 in
-    rw (p.1, p.2)
+    rw (at_exit c.from_residual-in_err-refuse_if-2.ensures)
     (by-refusal
     (past _ _ refl (omega arith) c.in_ok-refuse_if.ensures
     (stopped _ _ (ap not c.starts_with.ensures) (number-above _) c.in_err-refuse_if-2.ensures)))
 
 pub returns-in_err-refuse_if-3 : goal.returns-in_err-refuse_if-3
 returns-in_err-refuse_if-3 c =
-    let p = err_from_is_err_and c.from_residual-in_err-refuse_if-3.result c.from_residual-in_err-refuse_if-3.ensures.1 in
-    rw (p.1, p.2)
+    rw (at_exit c.from_residual-in_err-refuse_if-3.ensures)
     (by-refusal
     (past _ _ refl (omega arith) c.in_ok-refuse_if.ensures
     (past _ _ (ap not c.starts_with.ensures) (omega arith) c.in_ok-refuse_if-2.ensures
@@ -35,8 +32,7 @@ returns-in_err-refuse_if-3 c =
 
 pub returns-in_err-refuse_if-4 : goal.returns-in_err-refuse_if-4
 returns-in_err-refuse_if-4 c =
-    let p = err_from_is_err_and c.from_residual-in_err-refuse_if-4.result c.from_residual-in_err-refuse_if-4.ensures.1 in
-    rw (p.1, p.2)
+    rw (at_exit c.from_residual-in_err-refuse_if-4.ensures)
     (by-refusal
     (past _ _ refl (omega arith) c.in_ok-refuse_if.ensures
     (past _ _ (ap not c.starts_with.ensures) (omega arith) c.in_ok-refuse_if-2.ensures
@@ -45,8 +41,7 @@ returns-in_err-refuse_if-4 c =
 
 pub returns-in_err-check_counts : goal.returns-in_err-check_counts
 returns-in_err-check_counts c =
-    let p = err_from_is_err_and c.from_residual-in_err-check_counts.result c.from_residual-in_err-check_counts.ensures.1 in
-    rw (p.1, p.2)
+    rw (at_exit c.from_residual-in_err-check_counts.ensures)
     (by-refusal
     (past _ _ refl (omega arith) c.in_ok-refuse_if.ensures
     (past _ _ (ap not c.starts_with.ensures) (omega arith) c.in_ok-refuse_if-2.ensures
