@@ -1,8 +1,14 @@
 -- What an answer says, and what a list of checks says. Assumes nothing.
 use Rattle.std.proofs.Common.{◌≡◌, refl, sym, ap, ◌∙◌, ℕ, ◌<◌, List, ◌++◌, T, Ok, Err, arith}
 use Rattle.std.specs.Prelude.{Result}
+use Rattle.std.specs.Result.{IsErr, IsErrAnd}
+use Rattle.std.proofs.lemmas.Result.{err_from_is_err_and}
 use Rattle.facts.specs.Checks.{Check, first_of, numbered, number_said, Says}
 use Rattle.facts.proofs.Checks.{said-first, said-later}
+
+-- what the exit of a `?` answers, where it hands the error on as it is
+pub at_exit : {A E : Type 0} {r : Result A E} {f : E} → IsErr r × IsErrAnd r (λ e. e ≡ f) → r ≡ Err f
+at_exit {r = r} e = let p = err_from_is_err_and r e.1 in p.1 ∙ ap Err p.2
 
 -- where no reason to refuse has the number 0
 module _ {E : Type 0} (number : E → ℕ) (above : (f : E) → 0 < number f) where

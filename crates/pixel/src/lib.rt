@@ -5,7 +5,7 @@ ghost use Rattle.std.specs.Prelude.{◌≡◌};
 ghost use Rattle.pixel.specs.Pixel.{word, packed};
 
 // Which of a word's bytes are blue and red: the low and the third one, or the other way round. Green is the second and alpha the fourth.
-#[derive(Clone, Copy)]
+#[derive(Clone, Copy, Debug, PartialEq, Eq)]
 pub enum ChannelOrder {
     BlueFirst,
     RedFirst,

@@ -1,14 +1,8 @@
 -- What the loop of the row call keeps and needs. Assumes nothing.
-use mathlib.Core.Path.{◌≡◌, sym, ap, ◌∙◌}
-use mathlib.Core.Bool.{Bool, true, false, cond}
-use mathlib.Core.List.{List}
-use mathlib.Core.Logic.{⊎_elim}
-use Prim.Native.Nat.{ℕ, ◌+◌, ◌-◌, ◌/◌, ◌%◌, ◌≤◌, ◌<◌}
+use Rattle.std.proofs.Common.{◌≡◌, sym, ap, ◌∙◌, Bool, true, false, cond, eqb, List, ⊎_elim, ℕ, ◌+◌, ◌-◌, ◌/◌, ◌%◌, ◌≤◌, ◌<◌, Ok, Err, arith}
+use Rattle.std.proofs.Common.{length, set, get_or, drop, eq-eqb, ne_eqb}
+use Rattle.std.specs.Prelude.{Result}
 use native.Mathlib.Nat.{zero-add, zero-mod, zero-div, mod-lt, mod_self, mod-eq_of_lt, add-mod_right, eq-zero-or-pos}
-use native.Mathlib.Omega.{arith}
-use lib.Dec.{eqb}
-use lib.ListN.{length, set, get_or, drop}
-use borrow.Author.Tests.{eq-eqb, ne_eqb}
 use Rattle.facts.proofs.Tab.{tab-front, filled-length}
 use Rattle.grid.specs.declared.Grid.{Grid}
 use Rattle.grid.specs.Grid.{half, block_width, beside}
@@ -26,23 +20,21 @@ use Rattle.word.specs.declared.PVRTCTexelInfo.{PVRTCTexelInfo}
 use Rattle.pvrtc.specs.declared.Call.TheVariants as call
 use Rattle.pvrtc.specs.declared.Picture.{Picture}
 use Rattle.pvrtc.specs.declared.Refusal.{Refusal}
-use Rattle.pvrtc.specs.declared.Texel.{Texel}
-use Rattle.pvrtc.specs.declared.Texel.TheVariants as texel
 use Rattle.pvrtc.specs.Calls.{TexelRead}
 use Rattle.pvrtc.specs.Picture.{grid_of, picture_texel}
 use Rattle.pvrtc.specs.Refusals.{texel_number, texel_value}
 use Rattle.pvrtc.proofs.Accepted.{Accepted}
 use Rattle.pvrtc.proofs.Accepted as accepted
-use Rattle.pvrtc.proofs.Unique.{number-above}
+use Rattle.pvrtc.specs.Numbers.{number-above}
 
 module _ (p : Picture) (d : List ℕ) (x y room : ℕ) (a : Accepted p (call.Row y room) (length d)) (h : x < p.width) where
   -- a texel of an accepted row is not refused
-  pub not-refused : {r : Texel} {f : Refusal} → TexelRead p d x y r → r ≡ texel.Refused f → ⊥
+  pub not-refused : {r : Result ℕ Refusal} {f : Refusal} → TexelRead p d x y r → r ≡ Err f → ⊥
   not-refused {r} {f} t e =
       omega (arith, number-above f, ap texel_number e, t.number, accepted.texel-of-row p x y room (length d) a h)
 
   -- and is the picture's
-  pub its-word : {r : Texel} {v : ℕ} → TexelRead p d x y r → r ≡ texel.Word v → v ≡ picture_texel p d x y
+  pub its-word : {r : Result ℕ Refusal} {v : ℕ} → TexelRead p d x y r → r ≡ Ok v → v ≡ picture_texel p d x y
   its-word {r} {v} t e =
       sym (ap texel_value e) ∙ t.value ∙ rw (accepted.texel-of-row p x y room (length d) a h)
 

@@ -1,6 +1,5 @@
 pub mod Accepted
 pub mod Agree
-pub mod Groups
 pub mod InPicture
 pub mod InRow
 pub mod Modes

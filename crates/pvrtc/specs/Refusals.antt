@@ -1,17 +1,14 @@
 -- What a call refuses, as document 01 says it ("What a call says"). Assumes nothing: these are definitions.
-use Rattle.std.specs.Prelude.{◌≡◌, Bool, false, not, ◌||◌, List, [], ◌∷◌, ◌++◌, ℕ, ◌*◌, eqb, ltb, leb}
-use Rattle.facts.specs.Checks.{Check, check, first_of}
+use Rattle.std.specs.Prelude.{Bool, false, not, ◌||◌, List, [], ◌∷◌, ◌++◌, ℕ, ◌*◌, eqb, ltb, leb, Result, Ok, Err}
+use Rattle.facts.specs.Checks.{Check, check, number_said}
+use Rattle.facts.specs.Checks as said
 use Rattle.grid.specs.Grid.{is_power}
 use Rattle.grid.specs.Words.{word_bytes}
 use Rattle.pvrtc.specs.declared.Call.{Call}
 use Rattle.pvrtc.specs.declared.Call.TheVariants as call
-use Rattle.pvrtc.specs.declared.Decoded.{Decoded}
-use Rattle.pvrtc.specs.declared.Decoded.TheVariants as decoded
 use Rattle.pvrtc.specs.declared.Picture.{Picture}
 use Rattle.pvrtc.specs.declared.Refusal.{Refusal}
 use Rattle.pvrtc.specs.declared.Refusal.TheVariants.{ZeroSide, LargeSide, ShortData, ShortImage, NotPowerOfTwo, Outside}
-use Rattle.pvrtc.specs.declared.Texel.{Texel}
-use Rattle.pvrtc.specs.declared.Texel.TheVariants as texel
 use Rattle.pvrtc.specs.Picture.{grid_of}
 
 -- The bytes that a picture needs: eight for each block of its grid.
@@ -76,19 +73,17 @@ number_of NotPowerOfTwo = 5
 number_of Outside = 6
 
 -- The number that a call's answer says: 0 for none.
-abbrev pub decoded_number : Decoded → ℕ
-decoded_number decoded.Done = 0
-decoded_number (decoded.Refused f) = number_of f
+abbrev pub decoded_number : Result (Unit {0}) Refusal → ℕ
+decoded_number = number_said number_of
 
 -- An answer says what a list of checks says.
-abbrev pub Says : Decoded → List Check → Type 0
-Says r l = decoded_number r ≡ first_of l
+abbrev pub Says : Result (Unit {0}) Refusal → List Check → Type 0
+Says = said.Says number_of
 
-abbrev pub texel_number : Texel → ℕ
-texel_number (texel.Word w) = 0
-texel_number (texel.Refused f) = number_of f
+abbrev pub texel_number : Result ℕ Refusal → ℕ
+texel_number = number_said number_of
 
 -- The word that a texel call answers: 0 where it is refused.
-abbrev pub texel_value : Texel → ℕ
-texel_value (texel.Word w) = w
-texel_value (texel.Refused f) = 0
+abbrev pub texel_value : Result ℕ Refusal → ℕ
+texel_value (Ok w) = w
+texel_value (Err f) = 0

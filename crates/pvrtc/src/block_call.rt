@@ -5,24 +5,20 @@ ghost use Rattle.pvrtc.specs.Picture.{picture};
 
 use crate::check::check;
 use crate::layout::{grid_of, picture_of, sheet_of};
-use crate::{Call, Decoded, GridMode, Picture};
+use crate::{Call, GridMode, Picture, Refusal};
 use pixel::ChannelOrder;
 
 // All texels of a picture into lent words: the rows of blocks that cover its sheet, each in lanes.
-pub fn decode_picture(data: &[u8], p: Picture, image: &mut [u32]) -> Decoded
+pub fn decode_picture(data: &[u8], p: Picture, image: &mut [u32]) -> Result<(), Refusal>
     ensures { BlockDecoded p «data».now image.old image.new result }
 {
-    let checked = check(p, Call::Block { room: image.len() }, data.len());
-    let Decoded::Done = checked else {
-        return checked;
-    };
+    check(p, Call::Block { room: image.len() }, data.len())?;
     let g = grid_of(p);
     let s = sheet_of(p);
-    let order = p.order;
     for by in 0..grid::num_blocks_y(s.height) {
-        lanes::decode_block_row(data, g, by, order, paint::rows_from(s, by * 4, 4), image);
+        lanes::decode_block_row(data, g, by, p.order, paint::rows_from(s, by * 4, 4), image);
     }
-    Decoded::Done
+    Ok(())
 }
 
 // The same by the Rust's names and parameters, with the mode and the order.
@@ -34,7 +30,7 @@ pub fn decode_pvrtc(
     is2bpp: bool,
     mode: GridMode,
     order: ChannelOrder,
-) -> Decoded
+) -> Result<(), Refusal>
     ensures { BlockDecoded (picture width height is2bpp mode order) «data».now image.old image.new result }
 {
     decode_picture(data, picture_of(width, height, is2bpp, mode, order), image)
@@ -47,7 +43,7 @@ pub fn decode_pvrtc_2bpp(
     image: &mut [u32],
     mode: GridMode,
     order: ChannelOrder,
-) -> Decoded
+) -> Result<(), Refusal>
     ensures { BlockDecoded (picture width height true mode order) «data».now image.old image.new result }
 {
     decode_pvrtc(data, width, height, image, true, mode, order)
@@ -60,7 +56,7 @@ pub fn decode_pvrtc_4bpp(
     image: &mut [u32],
     mode: GridMode,
     order: ChannelOrder,
-) -> Decoded
+) -> Result<(), Refusal>
     ensures { BlockDecoded (picture width height false mode order) «data».now image.old image.new result }
 {
     decode_pvrtc(data, width, height, image, false, mode, order)

@@ -1,24 +1,31 @@
 // The refusals of a call, in their order.
-ghost use Rattle.std.specs.Prelude.{◌≡◌, false, [], ◌∷◌};
-ghost use Rattle.facts.specs.Checks.{check};
-ghost use Rattle.pvrtc.specs.Refusals.{zero_side, large_side, short_data, short_image, not_power, outside, number_of, Says};
-ghost use Rattle.pvrtc.specs.Refusals.{size_checks, data_checks, room_checks, grid_checks, place_checks, checks};
+ghost use Rattle.std.specs.Prelude.{◌≡◌, false};
+ghost use Rattle.pvrtc.specs.Refusals.{zero_side, large_side, short_data, short_image, not_power, outside, Says, size_checks, checks};
+ghost use Rattle.pvrtc.specs.Refusals.{number_of};
+ghost use Rattle.pvrtc.specs.Numbers.{number-above, same-refusal};
 
 use crate::layout::grid_of;
-use crate::{Call, Decoded, Picture, Refusal};
+use crate::{Call, Picture, Refusal};
+use facts::{Numbered, refuse_if};
 
 // Document 01's number of a refusal.
-pub fn refusal_number(f: Refusal) -> u64
-    ensures { result ≡ number_of f }
-{
-    match f {
-        Refusal::ZeroSide => 1,
-        Refusal::LargeSide => 2,
-        Refusal::ShortData => 3,
-        Refusal::ShortImage => 4,
-        Refusal::NotPowerOfTwo => 5,
-        Refusal::Outside => 6,
+impl Numbered for Refusal {
+    ghost number = { number_of };
+
+    fn number(self) -> u64 {
+        match self {
+            Refusal::ZeroSide => 1,
+            Refusal::LargeSide => 2,
+            Refusal::ShortData => 3,
+            Refusal::ShortImage => 4,
+            Refusal::NotPowerOfTwo => 5,
+            Refusal::Outside => 6,
+        }
     }
+
+    ghost above_zero = { number-above };
+
+    ghost one_to_one = { same-refusal };
 }
 
 // Whether a side is 0.
@@ -46,8 +53,8 @@ fn has_short_image(p: Picture, call: Call) -> bool
     ensures { result ≡ short_image p call }
 {
     match call {
-        Call::Texel { x: _, y: _ } => false,
-        Call::Row { y: _, room } => room < p.width,
+        Call::Texel { .. } => false,
+        Call::Row { room, .. } => room < p.width,
         Call::Block { room } => room < p.width * p.height,
     }
 }
@@ -64,77 +71,26 @@ fn is_outside(p: Picture, call: Call) -> bool
 {
     match call {
         Call::Texel { x, y } => x >= p.width || y >= p.height,
-        Call::Row { y, room: _ } => y >= p.height,
-        Call::Block { room: _ } => false,
+        Call::Row { y, .. } => y >= p.height,
+        Call::Block { .. } => false,
     }
-}
-
-// The refusal f where its condition holds.
-fn refuse_if(holds: bool, f: Refusal) -> Decoded
-    ensures { Says result (check holds (number_of f) ∷ []) }
-{
-    if holds {
-        return Decoded::Refused(f);
-    }
-    Decoded::Done
 }
 
 // The refusals of a picture's sizes, which come first in every call.
-pub fn check_sizes(p: Picture) -> Decoded
+pub fn check_sizes(p: Picture) -> Result<(), Refusal>
     ensures { Says result (size_checks p) }
 {
-    let zero = refuse_if(has_zero_side(p), Refusal::ZeroSide);
-    let Decoded::Done = zero else {
-        return zero;
-    };
+    refuse_if(has_zero_side(p), Refusal::ZeroSide)?;
     refuse_if(has_large_side(p), Refusal::LargeSide)
 }
 
-fn check_data(p: Picture, len: usize) -> Decoded
-    requires { large_side p ≡ false }
-    ensures { Says result (data_checks p len) }
-{
-    refuse_if(has_short_data(p, len), Refusal::ShortData)
-}
-
-fn check_room(p: Picture, call: Call) -> Decoded
-    requires { large_side p ≡ false }
-    ensures { Says result (room_checks p call) }
-{
-    refuse_if(has_short_image(p, call), Refusal::ShortImage)
-}
-
-fn check_grid(p: Picture) -> Decoded
-    ensures { Says result (grid_checks p) }
-{
-    refuse_if(has_no_power(p), Refusal::NotPowerOfTwo)
-}
-
-fn check_place(p: Picture, call: Call) -> Decoded
-    ensures { Says result (place_checks p call) }
-{
-    refuse_if(is_outside(p, call), Refusal::Outside)
-}
-
-// The first refusal of a call on `len` bytes whose condition holds, group by group.
-pub fn check(p: Picture, call: Call, len: usize) -> Decoded
+// The first refusal of a call on `len` bytes whose condition holds.
+pub fn check(p: Picture, call: Call, len: usize) -> Result<(), Refusal>
     ensures { Says result (checks p call len) }
 {
-    let sizes = check_sizes(p);
-    let Decoded::Done = sizes else {
-        return sizes;
-    };
-    let data = check_data(p, len);
-    let Decoded::Done = data else {
-        return data;
-    };
-    let room = check_room(p, call);
-    let Decoded::Done = room else {
-        return room;
-    };
-    let grid = check_grid(p);
-    let Decoded::Done = grid else {
-        return grid;
-    };
-    check_place(p, call)
+    check_sizes(p)?;
+    refuse_if(has_short_data(p, len), Refusal::ShortData)?;
+    refuse_if(has_short_image(p, call), Refusal::ShortImage)?;
+    refuse_if(has_no_power(p), Refusal::NotPowerOfTwo)?;
+    refuse_if(is_outside(p, call), Refusal::Outside)
 }

@@ -18,11 +18,11 @@ pub fn picture_of(
     ensures { result ≡ picture width height is2bpp mode order }
 {
     Picture {
-        width: width,
-        height: height,
-        is2bpp: is2bpp,
-        mode: mode,
-        order: order,
+        width,
+        height,
+        is2bpp,
+        mode,
+        order,
     }
 }
 
@@ -30,8 +30,7 @@ pub fn picture_of(
 pub fn in_order(p: Picture, order: ChannelOrder) -> Picture
     ensures { result ≡ in_order order p }
 {
-    let mode = p.mode;
-    picture_of(p.width, p.height, p.is2bpp, mode, order)
+    Picture { order, ..p }
 }
 
 // The blocks along a side of a grid, where `cover` blocks cover the picture.
@@ -40,7 +39,7 @@ fn side_in(mode: GridMode, cover: usize) -> usize
 {
     match mode {
         GridMode::Rust => cover,
-        GridMode::Stored => if cover < 2 { 2 } else { cover },
+        GridMode::Stored => cover.max(2),
     }
 }
 
@@ -48,10 +47,9 @@ fn side_in(mode: GridMode, cover: usize) -> usize
 pub fn grid_of(p: Picture) -> Grid
     ensures { result ≡ grid_of p }
 {
-    let mode = p.mode;
     Grid {
-        across: side_in(mode, grid::num_blocks_x(p.width, p.is2bpp)),
-        down: side_in(mode, grid::num_blocks_y(p.height)),
+        across: side_in(p.mode, grid::num_blocks_x(p.width, p.is2bpp)),
+        down: side_in(p.mode, grid::num_blocks_y(p.height)),
         is2bpp: p.is2bpp,
     }
 }

@@ -12,45 +12,23 @@ ghost use Rattle.pvrtc.specs.Inner.{block_words};
 
 use crate::check::check;
 use crate::layout::{grid_of, sheet_of};
-use crate::{Call, Decoded, Picture};
+use crate::{Call, Picture, Refusal};
 use grid::Grid;
 use paint::Sheet;
 use pixel::ChannelOrder;
 use word::PVRTCTexelInfo;
 
-// The sixteen texels of the middle block of nine words, at 4bpp.
-fn applicate_color_4bpp(nine: [PVRTCTexelInfo; 9], order: ChannelOrder) -> [u32; 32]
-    requires { Read false nine }
-    ensures { result ≡ block_words order false nine }
-{
-    let mut buffer = [0u32; 32];
-    for i in 0..16 {
-        buffer[i] = texel::texel_in(nine, false, i % 4, i / 4, order);
-    }
-    buffer
-}
-
-// The 32 texels of the middle block of nine words, at 2bpp.
-fn applicate_color_2bpp(nine: [PVRTCTexelInfo; 9], order: ChannelOrder) -> [u32; 32]
-    requires { Read true nine }
-    ensures { result ≡ block_words order true nine }
-{
-    let mut buffer = [0u32; 32];
-    for i in 0..32 {
-        buffer[i] = texel::texel_in(nine, true, i % 8, i / 8, order);
-    }
-    buffer
-}
-
+// The texels of the middle block of nine words, 16 at 4bpp and 32 at 2bpp; zeros follow.
 fn applicate_color(nine: [PVRTCTexelInfo; 9], is2bpp: bool, order: ChannelOrder) -> [u32; 32]
     requires { Read is2bpp nine }
     ensures { result ≡ block_words order is2bpp nine }
 {
-    if is2bpp {
-        applicate_color_2bpp(nine, order)
-    } else {
-        applicate_color_4bpp(nine, order)
+    let width = grid::block_width(is2bpp);
+    let mut buffer = [0u32; 32];
+    for i in 0..4 * width {
+        buffer[i] = texel::texel_in(nine, is2bpp, i % width, i / width, order);
     }
+    buffer
 }
 
 // Block (bx, by) of a grid, laid on its part of a sheet.
@@ -99,18 +77,14 @@ fn decode_block_row(
 }
 
 // All texels of a picture into lent words.
-pub fn decode_pvrtc_plain(data: &[u8], p: Picture, image: &mut [u32]) -> Decoded
+pub fn decode_pvrtc_plain(data: &[u8], p: Picture, image: &mut [u32]) -> Result<(), Refusal>
     ensures { BlockDecoded p «data».now image.old image.new result }
 {
-    let checked = check(p, Call::Block { room: image.len() }, data.len());
-    let Decoded::Done = checked else {
-        return checked;
-    };
+    check(p, Call::Block { room: image.len() }, data.len())?;
     let g = grid_of(p);
     let s = sheet_of(p);
-    let order = p.order;
     for by in 0..grid::num_blocks_y(s.height) {
-        decode_block_row(data, g, by, order, paint::rows_from(s, by * 4, 4), image);
+        decode_block_row(data, g, by, p.order, paint::rows_from(s, by * 4, 4), image);
     }
-    Decoded::Done
+    Ok(())
 }

@@ -1,20 +1,19 @@
 -- `pvrtc::block_call::decode_picture` meets its contract. The loop keeps that the first rows of blocks are laid. Assumes nothing.
-use mathlib.Core.Path.{sym, ap, ◌∙◌}
-use native.Mathlib.Omega.{arith}
+use Rattle.std.proofs.Common.{sym, arith}
+use Rattle.facts.proofs.Said.{at_exit}
 use Rattle.pvrtc.proofs.InPicture.{Going, none-laid, row-asked, row-ready, row_laid, all_laid}
 use Rattle.pvrtc.proofs.Unique.{by-words, by-none}
-use Rattle.pvrtc.specs.Refusals.{decoded_number}
 use Rattle.pvrtc.proofs.block_call.decode_picture.Goals as goal
 use Rattle.pvrtc.proofs.block_call.decode_picture.Goals.{After-num_blocks_y-by-end}
 
-pub returns-in_default : goal.returns-in_default
-returns-in_default c = by-none c.check-checked.ensures c.in_default.is
+pub returns-in_err-check : goal.returns-in_err-check
+returns-in_err-check c = by-none (at_exit c.from_residual.ensures) c.in_err-check.ensures
 
 going : (c : After-num_blocks_y-by-end) → let a = c.args in
     Going a.p a.«data».now a.image.now c.grid_of-g.result c.sheet_of-s.result c.num_blocks_y-by-end.result
 going c =
     record {
-      told = sym c.check-checked.ensures ∙ ap decoded_number c.in-Done.is;
+      told = sym c.in_ok-check.ensures;
       grid = c.grid_of-g.ensures;
       sheet = c.sheet_of-s.ensures;
       rows = c.num_blocks_y-by-end.ensures;

@@ -1,27 +1,18 @@
 -- `pvrtc::check::check_sizes` meets its contract: one check, and then another. Assumes nothing.
-use mathlib.Core.Bool.{Bool}
-use mathlib.Core.List.{List, [], ◌∷◌}
-use mathlib.Core.Path.{ap, ◌∙◌}
-use Prim.Native.Nat.{ℕ}
-use Rattle.facts.specs.Checks.{Check, check, first_of}
-use Rattle.pvrtc.proofs.Groups.{stops, goes_on}
-use Rattle.pvrtc.specs.Refusals.{zero_side, large_side}
+use Rattle.std.proofs.Common.{arith}
+use Rattle.std.proofs.lemmas.Result.{err_from_is_err_and}
+use Rattle.facts.specs.Checks.{first_of}
+use Rattle.pvrtc.specs.Numbers.{number-above}
 use Rattle.pvrtc.proofs.check.check_sizes.Goals as goal
 
--- one check, by its condition and its number
-abbrev one : ℕ → Bool → List Check
-one n t = check t n ∷ []
-
-pub returns-in_default : goal.returns-in_default
-returns-in_default c =
-    let p = c.args.p in
-    let zero = c.refuse_if-zero.ensures ∙ ap (λ (t : Bool). first_of (one 1 t)) c.has_zero_side.ensures in
-    stops (one 1 (zero_side p)) (one 2 (large_side p)) tt zero c.in_default.is
+pub returns-in_err-refuse_if : goal.returns-in_err-refuse_if
+unfolding first_of
+returns-in_err-refuse_if c =
+    let p = err_from_is_err_and c.from_residual.result c.from_residual.ensures.1 in
+    let a = c.in_err-refuse_if.ensures in
+    let b = number-above c.in_err-refuse_if.field-0.0 in
+    rw (p.1, p.2) (grind (arith, a, b, c.has_zero_side.ensures))
 
 pub returns : goal.returns
-returns c =
-    let p = c.args.p in
-    let zero = c.refuse_if-zero.ensures ∙ ap (λ (t : Bool). first_of (one 1 t))
-    c.has_zero_side.ensures in
-    goes_on (one 1 (zero_side p)) (one 2 (large_side p)) tt zero c.in-Done.is
-    (c.refuse_if.ensures ∙ ap (λ (t : Bool). first_of (one 2 t)) c.has_large_side.ensures)
+unfolding first_of
+returns c = let a = c.in_ok-refuse_if.ensures in grind (arith, a, c.has_zero_side.ensures, c.has_large_side.ensures, c.refuse_if-2.ensures)

@@ -1,9 +1,7 @@
 -- `pvrtc::row_call::decode_row` meets its contract. The loop keeps that the first x words are the row's texels, and what `InRow` says is held;
 -- it has too that no texel is refused. Assumes nothing.
-use mathlib.Core.Path.{◌≡◌, refl, sym, ap, ap₂, ◌∙◌}
-use Prim.Native.Nat.{ℕ, ◌/◌, ◌%◌, ◌≤◌, ◌<◌}
-use native.Mathlib.Omega.{arith}
-use lib.ListN.{length}
+use Rattle.std.proofs.Common.{◌≡◌, refl, sym, ap, ap₂, ◌∙◌, ℕ, ◌/◌, ◌%◌, ◌≤◌, ◌<◌, length, arith}
+use Rattle.facts.proofs.Said.{at_exit}
 use Rattle.grid.specs.declared.Grid.{Grid}
 use Rattle.grid.specs.Grid.{block_width}
 use Rattle.grid.specs.Words.{Stands, InGrid}
@@ -18,33 +16,32 @@ use Rattle.texel.proofs.Shares.{half_high}
 use Rattle.texel.specs.Summed.{with_texels}
 use Rattle.pvrtc.specs.Calls.{refusal}
 use Rattle.pvrtc.specs.Picture.{picture_texel}
-use Rattle.pvrtc.specs.Refusals.{decoded_number}
 use Rattle.pvrtc.specs.declared.Call.TheVariants as call
 use Rattle.pvrtc.proofs.row_call.decode_row.Goals as goal
-use Rattle.pvrtc.proofs.row_call.decode_row.Goals.{At-loop-x, In-Done, In_default-known_texel, Joined-place_of-eq0, then-place_of-eq0, else-place_of-eq0}
+use Rattle.pvrtc.proofs.row_call.decode_row.Goals.{At-loop-x, In_ok-check, Joined-x-width-eq0, then-x-width-eq0, else-x-width-eq0}
 
 abbrev grid_at : At-loop-x → Grid
 grid_at l = l.grid_of-g.result
 
-pub returns-in_default : goal.returns-in_default
-returns-in_default c = by-none c.check-checked.ensures c.in_default.is
+pub returns-in_err-check : goal.returns-in_err-check
+returns-in_err-check c = by-none (at_exit c.from_residual.ensures) c.in_err-check.ensures
 
 -- past the checks the call is accepted
-told : (c : In-Done) → let a = c.args in
+told : (c : In_ok-check) → let a = c.args in
     refusal a.p (call.Row a.y (length a.row.now)) a.«data».now ≡ 0
-told c = sym c.check-checked.ensures ∙ ap decoded_number c.in-Done.is
+told c = sym c.in_ok-check.ensures
 
-ok_of : (c : In-Done) → let a = c.args in
+ok_of : (c : In_ok-check) → let a = c.args in
     Accepted a.p (call.Row a.y (length a.row.now)) (length a.«data».now)
 ok_of c = let a = c.args in accepted a.p (call.Row a.y (length a.row.now)) (length a.«data».now) (told c)
 
 pub overflow_sub-g : goal.overflow_sub-g
-overflow_sub-g c = rw c.grid_of-g.ensures (some-across (stands (ok_of (goal.at.overflow_sub-g c).In-Done)))
+overflow_sub-g c = rw c.grid_of-g.ensures (some-across (stands (ok_of (goal.at.overflow_sub-g c).In_ok-check)))
 
 pub first_words-nine-requires : goal.first_words-nine-requires
 first_words-nine-requires c =
     let a = c.args in
-    let ok = ok_of (goal.at.first_words-nine-requires c).In-Done in
+    let ok = ok_of (goal.at.first_words-nine-requires c).In_ok-check in
     let some = some-across (stands ok) in
     let row = (block_in ok 0 a.y (width_above a.p ok.sides) (row_inside a.p a.y (length a.row.now) ok.inside)).down in
     let grid = c.grid_of-g.ensures in
@@ -57,7 +54,7 @@ pub loop-x-init : goal.loop-x-init
 loop-x-init c =
     let a = c.args in
     let words = held_none a.p.order c.grid_of-g.result a.«data».now a.y 0 c.first_words-nine.ensures refl in
-    (omega arith, told (goal.at.loop-x-init c).In-Done, row-none _ _ _ _, words)
+    (omega arith, told (goal.at.loop-x-init c).In_ok-check, row-none _ _ _ _, words)
 
 -- in the loop: the call is accepted, the words stand in the data, and the block of column x in the grid
 ok_at : (l : At-loop-x) → let a = l.args in
@@ -75,68 +72,63 @@ block_at l h =
     let row = row_inside a.p a.y (length a.row.now) ok.inside in
     block-as ok l.grid_of-g.ensures l.loop-x.x a.y h row
 
-pub next_words-next-requires : goal.next_words-next-requires
-next_words-next-requires c =
-    let table = c.spread_table-table.ensures in
+pub next_words-nine-requires : goal.next_words-nine-requires
+next_words-nine-requires c =
+    let l = (goal.at.next_words-nine-requires c).At-loop-x in
     record {
-      table_value = (table, stands_at (goal.at.next_words-next-requires c).At-loop-x);
-      in_grid = (rw c.block_of-bx.ensures (block_at (goal.at.next_words-next-requires c).At-loop-x c.loop-x-test.true), omega arith);
+      table_value = (c.spread_table-table.ensures, stands_at l);
+      in_grid = (rw c.block_width-width.ensures (block_at l c.loop-x-test.true), omega arith);
     }
 
 pub texels_in-requires : goal.texels_in-requires
 texels_in-requires c =
     let a = c.args in
-    let g = grid_at (goal.at.texels_in-requires c).At-loop-x in
+    let l = (goal.at.texels_in-requires c).At-loop-x in
+    let g = grid_at l in
     let d = a.«data».now in
-    let inside = (block_at (goal.at.texels_in-requires c).At-loop-x c.loop-x-test.true).across in
-    let starts = sym c.place_of.ensures ∙ c.if-place_of-eq0.true in
-    let block = c.block_of-bx.ensures in
-    let words = slides a.p.order g d a.y c.loop-x.x inside starts c.loop-x.invariant.3 block c.next_words-next.ensures in
+    let inside = (block_at l c.loop-x-test.true).across in
+    let width = c.block_width-width.ensures in
+    let starts = sym (ap (λ (w : ℕ). c.loop-x.x % w) width) ∙ c.if-x-width-eq0.true in
+    let block = ap (λ (w : ℕ). c.loop-x.x / w) width in
+    let words = slides a.p.order g d a.y c.loop-x.x inside starts c.loop-x.invariant.3 block c.next_words-nine.ensures in
     let read = slides-read a.p.order g d a.y c.loop-x.x words in
-    (omega arith, omega arith, read, rw c.block_width-width.ensures (omega (arith, c.loop-x.invariant.3.long, half_high g.is2bpp)))
+    (omega arith, omega arith, read, rw width (omega (arith, c.loop-x.invariant.3.long, half_high g.is2bpp)))
 
 -- once the words have slid where a block begins
-held : (c : Joined-place_of-eq0) → let a = c.args in let g = c.grid_of-g.result in
-    c.loop-x.x / block_width g.is2bpp < g.across → Held a.p.order g a.«data».now a.y c.loop-x.x c.if-place_of-eq0.nine c.if-place_of-eq0.texels
+held : (c : Joined-x-width-eq0) → let a = c.args in let g = c.grid_of-g.result in
+    c.loop-x.x / block_width g.is2bpp < g.across → Held a.p.order g a.«data».now a.y c.loop-x.x c.if-x-width-eq0.nine c.if-x-width-eq0.texels
 held c inside =
     let a = c.args in
     let l = c.loop-x in
     let g = c.grid_of-g.result in
     let d = a.«data».now in
-    let place = c.place_of.ensures in
-    elim c.if-place_of-eq0.branch [
-      | then-place_of-eq0 t ↦
-          let words = t.nine-is ∙ t.next_words-next.ensures in
+    let width = c.block_width-width.ensures in
+    let place = ap (λ (w : ℕ). l.x % w) width in
+    let block = ap (λ (w : ℕ). l.x / w) width in
+    elim c.if-x-width-eq0.branch [
+      | then-x-width-eq0 t ↦
+          let words = t.nine-is ∙ t.next_words-nine.ensures in
           let texels =
           t.texels-is ∙ t.texels_in.ensures
-          ∙ ap₂ (λ n (w : ℕ). with_texels a.p.order g.is2bpp n 0 (a.y % 4) w l.texels) (sym t.nine-is) t.block_width-width.ensures in
-          held_first a.p.order g d a.y l.x inside (sym place ∙ t.if-place_of-eq0.true) l.invariant.3 t.block_of-bx.ensures words texels
-      | else-place_of-eq0 e ↦
-          rw (e.nine-is, e.texels-is) (held-later a.p.order g d a.y l.x (λ z. e.if-place_of-eq0.false (place ∙ z)) l.invariant.3)
+          ∙ ap₂ (λ n (w : ℕ). with_texels a.p.order g.is2bpp n 0 (a.y % 4) w l.texels) (sym t.nine-is) width in
+          held_first a.p.order g d a.y l.x inside (sym place ∙ t.if-x-width-eq0.true) l.invariant.3 block words texels
+      | else-x-width-eq0 e ↦
+          rw (e.nine-is, e.texels-is) (held-later a.p.order g d a.y l.x (λ z. e.if-x-width-eq0.false (place ∙ z)) l.invariant.3)
     ]
 
 pub known_texel-requires : goal.known_texel-requires
 known_texel-requires c =
     let at = goal.at.known_texel-requires c in
     held-picture c.args.p c.args.«data».now c.args.y c.loop-x.x c.grid_of-g.ensures
-    (held at.Joined-place_of-eq0 (block_at at.At-loop-x c.loop-x-test.true).across)
+    (held at.Joined-x-width-eq0 (block_at at.At-loop-x c.loop-x-test.true).across)
 
--- the branch of a refused texel is not reached
-unreached : (c : In_default-known_texel) → Accepted c.args.p (call.Row c.args.y (length c.args.row.now)) (length c.args.«data».now) → ⊥
-unreached c ok =
+-- no texel of the row is refused
+pub returns-in_err-row : goal.returns-in_err-row
+returns-in_err-row c =
     let a = c.args in
-    not-refused a.p a.«data».now c.loop-x.x a.y (length a.row.now) ok c.loop-x-test.true
-    c.known_texel.ensures c.in_default-known_texel.is
-
-pub shape_of-row-in_default-known_texel : goal.shape_of-row-in_default-known_texel
-shape_of-row-in_default-known_texel c =
-    let at = goal.at.shape_of-row-in_default-known_texel c in
-    absurd (unreached at.In_default-known_texel (ok_at at.At-loop-x))
-
-pub returns-in_default-known_texel : goal.returns-in_default-known_texel
-returns-in_default-known_texel c =
-    let at = goal.at.returns-in_default-known_texel c in
-    absurd (unreached at.In_default-known_texel (ok_at at.At-loop-x))
+    absurd
+    (not-refused a.p a.«data».now c.loop-x.x a.y (length a.row.now) (ok_at (goal.at.returns-in_err-row c).At-loop-x)
+    c.loop-x-test.true c.known_texel.ensures c.in_err-row.was)
 
 -- column x is one of the row's, and word x one of the lent ones
 narrow : (l : At-loop-x) → let a = l.args in (a.p.width ≤ 65536) × (a.p.width ≤ length a.row.now)
@@ -165,11 +157,11 @@ loop-x-preserved c =
     let d = a.«data».now in
     let inv = c.loop-x.invariant in
     let taken = c.loop-x-test.true in
-    let its = its-word a.p d c.loop-x.x a.y (length a.row.now) (ok_at l) taken c.known_texel.ensures c.in-Word.is in (
+    let its = its-word a.p d c.loop-x.x a.y (length a.row.now) (ok_at l) taken c.known_texel.ensures c.in_ok-row.was in (
       omega (arith, taken),
       inv.1,
       next_word inv.2 its taken (omega (arith, narrow l, taken)),
-      held_next a.p.order c.grid_of-g.result d a.y c.loop-x.x (held at.Joined-place_of-eq0 (block_at l taken).across),
+      held_next a.p.order c.grid_of-g.result d a.y c.loop-x.x (held at.Joined-x-width-eq0 (block_at l taken).across),
     )
 
 pub shape_of-row : goal.shape_of-row
