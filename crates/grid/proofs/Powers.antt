@@ -1,8 +1,8 @@
 -- Laws of powers of two and their logarithms. Assumes nothing.
-use Rattle.std.proofs.Common.{◌≡◌, ℕ, zero, suc, ◌+◌, ◌-◌, ◌*◌, ◌/◌, ◌%◌, ◌^◌, ◌<◌, ◌≤◌, min, true, eqb, sym, refl, ap, ◌∙◌, ap₂, ⊎_elim}
-use Rattle.std.proofs.Common.{eq-or-lt_of_le, arith, pow_pos, le-ltb, lt-ltb, eq-eqb, ne_eqb, eqb-true}
+use Rattle.std.proofs.Common.{◌≡◌, ℕ, zero, suc, ◌+◌, ◌-◌, ◌*◌, ◌/◌, ◌%◌, ◌^◌, ◌<◌, ◌≤◌, min, true, eqb, sym, refl, ap, ◌∙◌, ap₂, ⊎_elim, eq-or-lt_of_le}
+use Rattle.std.proofs.Common.{arith, pow_pos, le-ltb, lt-ltb, eq-eqb, ne_eqb, eqb-true, bit_and}
 use native.Mathlib.Nat.{mod_self}
-use lib.Bits.{bit_and, and_mask, and_block}
+use lib.Bits.{and_mask, and_block}
 use Rattle.facts.proofs.Numbers.{lt-or-le}
 use Rattle.facts.proofs.Powers.{lt-pow}
 use Rattle.grid.specs.Grid.{halvings, log2, Power, is_power}

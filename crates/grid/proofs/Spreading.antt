@@ -1,8 +1,7 @@
 -- Laws of spread bits, and the address by them. Assumes nothing.
 use Rattle.std.proofs.Common.{◌≡◌, ℕ, zero, suc, ◌+◌, ◌-◌, ◌*◌, ◌/◌, ◌%◌, ◌^◌, ◌<◌, ◌≤◌, min, List, get_or, sym, refl, ap, ◌∙◌, mod-lt, suc-add}
-use Rattle.std.proofs.Common.{div-add-mod', zero-add, div-one, add-one, arith, pow_pos}
+use Rattle.std.proofs.Common.{div-add-mod', zero-add, div-one, add-one, arith, pow_pos, bit_and}
 use native.Mathlib.Nat.{pow-succ', div-eq_of_lt}
-use lib.Bits.{bit_and}
 use lib.Pow.{field, mod-mod-pow}
 use Rattle.facts.proofs.Powers.{pow-le-cancel, shift}
 use Rattle.facts.proofs.Tab.{get_or-tab}

@@ -1,8 +1,5 @@
 -- `paint::copy_block_buffer` meets its contract. The loop keeps that the first j rows of the block are laid. Assumes nothing.
-use mathlib.Core.Path.{◌≡◌, refl}
-use Prim.Native.Nat.{ℕ, ◌+◌, ◌*◌, ◌≤◌, ◌<◌}
-use native.Mathlib.Nat.{mul-le-mul_right}
-use native.Mathlib.Omega.{arith}
+use Rattle.std.proofs.Common.{◌≡◌, refl, ℕ, ◌+◌, ◌*◌, ◌≤◌, ◌<◌, mul-le-mul_right, arith}
 use Rattle.paint.proofs.Laid.{part_none, row-part}
 use Rattle.paint.proofs.Sheets.{row-in-room}
 use Rattle.paint.specs.declared.Sheet.{Sheet}

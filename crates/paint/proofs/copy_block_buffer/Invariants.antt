@@ -1,6 +1,5 @@
 -- `paint::copy_block_buffer` meets its contract. The loop keeps that the first j rows of the block are laid. Assumes nothing.
-use Prim.Native.Nat.{◌+◌, ◌-◌, ◌*◌, ◌≤◌}
-use lib.ListN.{get_or}
+use Rattle.std.proofs.Common.{◌+◌, ◌-◌, ◌*◌, ◌≤◌, get_or}
 use Rattle.paint.proofs.Laid.{Part}
 use Rattle.paint.proofs.copy_block_buffer.Given as goal
 

@@ -1,8 +1,5 @@
 -- `paint::copy_words` meets its contract. The loop keeps that the first i words of the row are laid. Assumes nothing.
-use mathlib.Core.Path.{◌≡◌, refl, ap, ◌∙◌}
-use Prim.Native.Nat.{ℕ, ◌+◌}
-use native.Mathlib.Omega.{arith}
-use lib.ListN.{get_or}
+use Rattle.std.proofs.Common.{◌≡◌, refl, ap, ◌∙◌, ℕ, ◌+◌, arith, get_or}
 use Rattle.paint.proofs.Laid.{row-none, row_word}
 use Rattle.paint.specs.Paint.{painted}
 use Rattle.paint.proofs.copy_words.Goals as goal

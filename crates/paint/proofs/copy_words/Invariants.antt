@@ -1,6 +1,5 @@
 -- `paint::copy_words` meets its contract. The loop keeps that the first i words of the row are laid. Assumes nothing.
-use Prim.Native.Nat.{◌+◌, ◌-◌, ◌≤◌}
-use lib.ListN.{get_or}
+use Rattle.std.proofs.Common.{◌+◌, ◌-◌, ◌≤◌, get_or}
 use Rattle.paint.proofs.Laid.{Row}
 use Rattle.paint.proofs.copy_words.Given as goal
 

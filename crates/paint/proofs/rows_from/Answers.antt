@@ -1,5 +1,5 @@
 -- `paint::rows_from` meets its contract: the first row's start is a number of the machine, as the last word's is. Assumes nothing.
-use native.Mathlib.Omega.{arith}
+use Rattle.std.proofs.Common.{arith}
 use Rattle.paint.proofs.Sheets.{row-in-room}
 use Rattle.paint.proofs.rows_from.Goals as goal
 

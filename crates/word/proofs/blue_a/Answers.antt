@@ -1,5 +1,5 @@
 -- `word::blue_a` meets its contract. The branch's test decides whether the colour is opaque, and each arm is the definition's. Assumes nothing.
-use borrow.Author.Tests.{eq-eqb, ne_eqb}
+use Rattle.std.proofs.Common.{eq-eqb, ne_eqb}
 use Rattle.word.proofs.blue_a.Goals as goal
 
 pub returns-then-c-eq1 : goal.returns-then-c-eq1

@@ -1,6 +1,5 @@
 -- `word::blue_b` meets its contract. The branch's test decides whether the colour is opaque, and each arm is the definition's. Assumes nothing.
-use native.Mathlib.Nat.{div-one}
-use borrow.Author.Tests.{eq-eqb, ne_eqb}
+use Rattle.std.proofs.Common.{div-one, eq-eqb, ne_eqb}
 use Rattle.word.proofs.blue_b.Goals as goal
 
 pub returns-then-c-eq1 : goal.returns-then-c-eq1

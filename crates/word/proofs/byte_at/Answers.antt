@@ -1,8 +1,6 @@
 -- `word::byte_at` meets its contract. Past the end of the list the entry asked for is the default, 0. Assumes nothing.
-use mathlib.Core.Path.{sym}
-use Prim.Native.Nat.{◌≤◌}
-use native.Mathlib.Omega.{arith}
-use lib.ListN.{length, get_or-eq_default}
+use Rattle.std.proofs.Common.{sym, ◌≤◌, arith, length}
+use lib.ListN.{get_or-eq_default}
 use Rattle.word.proofs.byte_at.Goals as goal
 
 pub returns-else-i-data : goal.returns-else-i-data

@@ -1,8 +1,5 @@
 -- `word::read_word` meets its contract. The calls' results, put one into the other, are the definition's record at either depth. Assumes nothing.
-use mathlib.Core.Path.{◌≡◌, ◌∙◌, ap}
-use mathlib.Core.Bool.{Bool, cond}
-use mathlib.Core.List.{List}
-use Prim.Native.Nat.{ℕ}
+use Rattle.std.proofs.Common.{◌≡◌, ◌∙◌, ap, Bool, cond, List, ℕ}
 use Rattle.word.specs.Word.{with_colors, with_weights_2bpp, with_weights_4bpp, unread, word_of}
 use Rattle.word.specs.declared.PVRTCTexelInfo.{PVRTCTexelInfo}
 use Rattle.word.proofs.read_word.Goals as goal

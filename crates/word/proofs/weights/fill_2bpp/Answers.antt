@@ -1,6 +1,5 @@
 -- `word::weights::fill_2bpp` meets its contract. The tests are those of the definition. Assumes nothing.
-use native.Mathlib.Nat.{div-one}
-use borrow.Author.Tests.{eq-eqb, ne_eqb}
+use Rattle.std.proofs.Common.{div-one, eq-eqb, ne_eqb}
 use Rattle.word.specs.Word.{fill2bpp}
 use Rattle.word.proofs.weights.fill_2bpp.Goals as goal
 

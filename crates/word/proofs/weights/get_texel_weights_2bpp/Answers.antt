@@ -1,12 +1,6 @@
 -- `word::weights::get_texel_weights_2bpp` meets its contract. The loop's invariant: the first i weights are stored. The measure is what is left
 -- of the 32. Assumes nothing.
-use mathlib.Core.Path.{◌≡◌}
-use mathlib.Core.Bool.{Bool}
-use mathlib.Core.List.{List}
-use Prim.Native.Nat.{ℕ}
-use native.Mathlib.Omega.{arith}
-use lib.ListN.{length}
-use borrow.Author.Rules.{rules}
+use Rattle.std.proofs.Common.{◌≡◌, Bool, List, ℕ, arith, length, rules}
 use Rattle.facts.specs.Tab.{tab}
 use Rattle.facts.proofs.Tab.{filled_none, filled_more, filled-end}
 use Rattle.word.specs.Word.{modulation, mode, weight2bpp, fill2bpp, with_weights_2bpp}

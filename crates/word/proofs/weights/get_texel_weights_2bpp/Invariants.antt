@@ -1,6 +1,6 @@
 -- `word::weights::get_texel_weights_2bpp` meets its contract. The loop's invariant: the first i weights are stored. The measure is what is left
 -- of the 32. Assumes nothing.
-use Prim.Native.Nat.{◌-◌, ◌≤◌}
+use Rattle.std.proofs.Common.{◌-◌, ◌≤◌}
 use Rattle.facts.proofs.Tab.{Filled}
 use Rattle.word.specs.Word.{weight2bpp}
 use Rattle.word.proofs.weights.get_texel_weights_2bpp.Given as goal

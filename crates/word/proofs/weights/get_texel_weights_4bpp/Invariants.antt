@@ -1,6 +1,6 @@
 -- `word::weights::get_texel_weights_4bpp` meets its contract. The loop's invariant: the first i weights are stored, and the first i bits of the
 -- flag. The measure is what is left of the 16. Assumes nothing.
-use Prim.Native.Nat.{◌-◌, ◌≤◌}
+use Rattle.std.proofs.Common.{◌-◌, ◌≤◌}
 use Rattle.facts.proofs.Bits.{Flagged}
 use Rattle.facts.proofs.Tab.{Filled}
 use Rattle.word.specs.Word.{weight4bpp, punch4bpp}

@@ -1,9 +1,5 @@
 -- `word::weights::mode` meets its contract. Bit 0 of the colour is bit 0 of its first byte. Assumes nothing.
-use mathlib.Core.Path.{◌≡◌, ap}
-use Prim.Native.Nat.{ℕ, ◌+◌, ◌*◌, ◌/◌, ◌%◌}
-use native.Mathlib.Omega.{arith}
-use lib.Dec.{eqb}
-use lib.ListN.{get_or}
+use Rattle.std.proofs.Common.{◌≡◌, ap, ℕ, ◌+◌, ◌*◌, ◌/◌, ◌%◌, arith, eqb, get_or}
 use Rattle.word.proofs.weights.mode.Goals as goal
 
 pub returns : goal.returns

@@ -1,8 +1,6 @@
 -- `word::weights::punch_4bpp` meets its contract. The tests are those of the definition, and 2 ^ i with i below 16 fits. Assumes nothing.
-use Prim.Native.Nat.{◌<◌, ◌^◌}
-use native.Mathlib.Omega.{arith}
+use Rattle.std.proofs.Common.{◌<◌, ◌^◌, arith, eq-eqb, ne_eqb}
 use lib.Pow.{pow-lt}
-use borrow.Author.Tests.{eq-eqb, ne_eqb}
 use Rattle.word.specs.Word.{punch4bpp}
 use Rattle.word.proofs.weights.punch_4bpp.Goals as goal
 

@@ -1,9 +1,6 @@
 -- `word::weights::stored_weight` meets its contract. The tests are those of the definition, and a table's weight is at most 8, so that 3 more fits.
 -- Assumes nothing.
-use Prim.Native.Nat.{◌/◌}
-use native.Mathlib.Nat.{div-one}
-use native.Mathlib.Omega.{arith}
-use borrow.Author.Tests.{eq-eqb, ne_eqb}
+use Rattle.std.proofs.Common.{◌/◌, div-one, arith, eq-eqb, ne_eqb}
 use Rattle.word.specs.Word.{stored2bpp}
 use Rattle.word.proofs.Bounds.{standard-le}
 use Rattle.word.proofs.weights.stored_weight.Goals as goal

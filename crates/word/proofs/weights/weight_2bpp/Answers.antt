@@ -1,6 +1,5 @@
 -- `word::weights::weight_2bpp` meets its contract. The tests are those of the definition. Assumes nothing.
-use mathlib.Core.Path.{◌∙◌, sym}
-use borrow.Author.Tests.{eq-eqb, ne_eqb}
+use Rattle.std.proofs.Common.{◌∙◌, sym, eq-eqb, ne_eqb}
 use Rattle.word.specs.Word.{weight2bpp}
 use Rattle.word.proofs.weights.weight_2bpp.Goals as goal
 
