@@ -53,7 +53,7 @@ fn u16_at(data: &[u8], i: usize) -> u16
     u16::from_le_bytes([byte_at(data, i), byte_at(data, i + 1)])
 }
 
-// A colour's blue, which A and B keep in different bits.
+// A colour's blue. A and B keep it in bits that differ in place and number, so each has its formula.
 fn blue_a(c: u16) -> u8
     ensures { result ≡ blue_a c }
 {
@@ -108,7 +108,7 @@ pub fn get_texel_colors(data: &[u8], info: PVRTCTexelInfo) -> PVRTCTexelInfo
     }
 }
 
-// The record before anything is read into it.
+// The record before anything is read into it. (By a derived Default the proof did not close: what it says, field by field, `cc` did not join.)
 pub fn unread_info() -> PVRTCTexelInfo
     ensures { result ≡ unread }
 {
