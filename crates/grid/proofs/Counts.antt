@@ -24,10 +24,6 @@ module _ (size side : ℕ) (pos : 0 < size) where
   clipped n =
       sym (split size (side + (size - 1)) (side / size + 1) (side % size - 1) (omega (arith, div-add-mod' side size)) (omega (arith, mod-lt side pos))).0
 
-  -- there are no more blocks than texels
-  pub fits : (side % size ≡ 0 → ⊥) → side / size + 1 ≤ side
-  fits n = omega (arith, div-add-mod' side size, mul-le-mul_left (side / size) pos)
-
   -- the blocks cover the side, and the last of them starts within it
   pub blocks-cover : side ≤ blocks size side * size
   blocks-cover = omega (arith, lt-div-mul-add {a = side + (size - 1)} pos)

@@ -1,11 +1,6 @@
 -- Summed down and then across, the nine words give the texel's sums. Assumes nothing.
-use mathlib.Core.Path.{◌≡◌, ap, ◌∙◌}
-use mathlib.Core.Bool.{Bool, true, false}
-use mathlib.Core.List.{List, [], ◌++◌}
-use Prim.Native.Nat.{ℕ, zero, suc, ◌+◌, ◌-◌, ◌*◌, ◌/◌, ◌%◌, ◌≤◌, ◌<◌}
-use native.Mathlib.Nat.{mul-le-mul, not-suc-le-zero, zero-add, add-zero}
-use native.Mathlib.Omega.{arith}
-use lib.ListN.{get_or, drop}
+use Rattle.std.proofs.Common.{◌≡◌, ap, ◌∙◌, Bool, true, false, List, [], ◌++◌, ℕ, zero, suc, ◌+◌, ◌-◌, ◌*◌, ◌/◌, ◌%◌, ◌≤◌, ◌<◌, mul-le-mul, not-suc-le-zero}
+use Rattle.std.proofs.Common.{zero-add, add-zero, arith, get_or, drop}
 use Rattle.facts.specs.Sum.{sum}
 use Rattle.facts.specs.Tab.{tab}
 use Rattle.facts.proofs.Tab.{get_or-tab, tab-front, tab-same}

@@ -1,9 +1,5 @@
 -- How the equations of the calls inside make the texel, over plain variables. Assumes nothing.
-use mathlib.Core.Path.{◌≡◌}
-use mathlib.Core.Bool.{Bool, true, false}
-use mathlib.Core.List.{List, []}
-use Prim.Native.Nat.{ℕ, ◌+◌, ◌-◌, ◌*◌, ◌/◌, ◌%◌}
-use lib.ListN.{get_or}
+use Rattle.std.proofs.Common.{◌≡◌, Bool, true, false, List, [], ℕ, ◌+◌, ◌-◌, ◌*◌, ◌/◌, ◌%◌, get_or}
 use Rattle.grid.specs.Grid.{half, block_width}
 use Rattle.facts.specs.Bits.{is_set}
 use Rattle.pixel.specs.Pixel.{packed}

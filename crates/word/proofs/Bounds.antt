@@ -1,13 +1,8 @@
 -- What a word's parts are, one by one, and what they are bounded by: colours by 31, alphas by 15, weights by 8.
 -- Assumes nothing.
-use mathlib.Core.Path.{◌≡◌, refl, ap, ◌∙◌}
-use mathlib.Core.Bool.{Bool, true, false, cond}
-use mathlib.Core.List.{List, [], ◌∷◌}
-use Prim.Native.Nat.{ℕ, ◌+◌, ◌/◌, ◌%◌, ◌^◌, ◌≤◌, ◌<◌}
-use native.Mathlib.Omega.{arith}
+use Rattle.std.proofs.Common.{◌≡◌, refl, ap, ◌∙◌, Bool, true, false, cond, List, [], ◌∷◌, ℕ, ◌+◌, ◌/◌, ◌%◌, ◌^◌, ◌≤◌, ◌<◌, arith, leb, leb→le, length}
+use Rattle.std.proofs.Common.{get_or, drop, replicate, length-append}
 use lib.Bits.{and_le_r}
-use lib.Dec.{leb, leb→le}
-use lib.ListN.{length, get_or, drop, replicate, length-append}
 use Rattle.facts.specs.Bits.{is_set}
 use Rattle.facts.specs.Tab.{tab}
 use Rattle.facts.proofs.Bits.{flags-bit}

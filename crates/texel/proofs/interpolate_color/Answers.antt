@@ -1,5 +1,5 @@
 -- `texel::interpolate_color` meets its contract: `Blend` bounds the two products and the result. Assumes nothing.
-use native.Mathlib.Omega.{arith}
+use Rattle.std.proofs.Common.{arith}
 use Rattle.texel.specs.Texel.{blended}
 use Rattle.texel.proofs.Blend.{first_part, second-part}
 use Rattle.texel.proofs.interpolate_color.Goals as goal

@@ -1,7 +1,5 @@
 -- `texel::scale` meets its contract, by the depth: `Blend` has document 01's formulas and their bounds. Assumes nothing.
-use mathlib.Core.Bool.{false}
-use Prim.Native.Nat.{◌*◌}
-use native.Mathlib.Omega.{arith}
+use Rattle.std.proofs.Common.{false, ◌*◌, arith}
 use Rattle.grid.specs.Grid.{half}
 use Rattle.texel.proofs.Blend.{scaled-by}
 use Rattle.texel.specs.Inner.{Low}

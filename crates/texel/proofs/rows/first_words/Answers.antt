@@ -1,6 +1,5 @@
 -- `texel::rows::first_words` meets its contract: every column counts, and the rows by their shares. Assumes nothing.
-use mathlib.Core.Path.{ap, ◌∙◌}
-use native.Mathlib.Omega.{arith}
+use Rattle.std.proofs.Common.{ap, ◌∙◌, arith}
 use Rattle.texel.proofs.Across.{row_at, few-shares}
 use Rattle.texel.proofs.Needed.{few-every}
 use Rattle.texel.specs.Needed.{needed_about, every}

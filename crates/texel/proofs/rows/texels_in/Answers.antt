@@ -1,6 +1,5 @@
 -- `texel::rows::texels_in` meets its contract. The loop keeps that the first i texels are stored. Assumes nothing.
-use mathlib.Core.Path.{◌≡◌, refl}
-use native.Mathlib.Omega.{arith}
+use Rattle.std.proofs.Common.{◌≡◌, refl, arith}
 use Rattle.facts.proofs.Tab.{filled_none, filled_more, filled-length}
 use Rattle.texel.proofs.Across.{row_at, few-shares, window-low, weights-low, with-texels}
 use Rattle.texel.proofs.Shares.{half_high}

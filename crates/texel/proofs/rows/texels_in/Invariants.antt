@@ -1,5 +1,5 @@
 -- `texel::rows::texels_in` meets its contract. The loop keeps that the first i texels are stored. Assumes nothing.
-use Prim.Native.Nat.{◌+◌, ◌-◌, ◌≤◌}
+use Rattle.std.proofs.Common.{◌+◌, ◌-◌, ◌≤◌}
 use Rattle.facts.proofs.Tab.{Filled}
 use Rattle.grid.specs.Grid.{half}
 use Rattle.texel.specs.Summed.{texel_by}

@@ -1,6 +1,5 @@
 -- `texel::summing::by_shares` meets its contract: a number of at most 124 times at most 8. Assumes nothing.
-use native.Mathlib.Nat.{mul-le-mul}
-use native.Mathlib.Omega.{arith}
+use Rattle.std.proofs.Common.{mul-le-mul, arith}
 use Rattle.texel.proofs.summing.by_shares.Goals as goal
 
 pub overflow_mul-result : goal.overflow_mul-result

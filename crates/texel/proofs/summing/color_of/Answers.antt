@@ -1,5 +1,5 @@
 -- `texel::summing::color_of` meets its contract: the colour asked for, widened. Assumes nothing.
-use mathlib.Core.Path.{ap, ◌∙◌}
+use Rattle.std.proofs.Common.{ap, ◌∙◌}
 use Rattle.texel.specs.Summed.{widened}
 use Rattle.texel.proofs.summing.color_of.Goals as goal
 

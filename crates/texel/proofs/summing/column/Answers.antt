@@ -1,6 +1,5 @@
 -- `texel::summing::column` meets its contract: three words of a column have small colours. Assumes nothing.
-use Prim.Native.Nat.{◌+◌}
-use native.Mathlib.Omega.{arith}
+use Rattle.std.proofs.Common.{◌+◌, arith}
 use Rattle.texel.proofs.Across.{column-is, color-low}
 use Rattle.texel.proofs.summing.column.Goals as goal
 

@@ -1,8 +1,5 @@
 -- `texel::summing::shares_across` meets its contract, by the depth. Assumes nothing.
-use mathlib.Core.Path.{◌∙◌}
-use mathlib.Core.Bool.{true, false}
-use Prim.Native.Nat.{◌<◌}
-use native.Mathlib.Omega.{arith}
+use Rattle.std.proofs.Common.{◌∙◌, true, false, ◌<◌, arith}
 use Rattle.grid.specs.Grid.{block_width}
 use Rattle.texel.proofs.Across.{row_at}
 use Rattle.texel.proofs.summing.shares_across.Goals as goal

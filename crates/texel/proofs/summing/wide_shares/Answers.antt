@@ -1,5 +1,5 @@
 -- `texel::summing::wide_shares` meets its contract: the rows of the table are the shares, which the checker computes. Assumes nothing.
-use mathlib.Core.Path.{refl}
+use Rattle.std.proofs.Common.{refl}
 use Rattle.facts.specs.Tab.{tab}
 use Rattle.texel.specs.Summed.{share_rows}
 use Rattle.texel.specs.Texel.{share}

@@ -1,7 +1,5 @@
 -- `texel::weights::block_of` meets its contract, by the depth. Assumes nothing.
-use mathlib.Core.Bool.{true, false}
-use mathlib.Core.Path.{refl}
-use native.Mathlib.Omega.{arith}
+use Rattle.std.proofs.Common.{true, false, refl, arith}
 use Rattle.texel.specs.Inner.{InNine}
 use Rattle.texel.proofs.weights.block_of.Goals as goal
 

@@ -1,5 +1,5 @@
 -- `texel::weights::fill` meets its contract, rule by rule. Assumes nothing.
-use native.Mathlib.Omega.{arith}
+use Rattle.std.proofs.Common.{arith}
 use Rattle.grid.specs.Grid.{half}
 use Rattle.texel.proofs.Made.{by-nothing, by-around, by-above-below, by-left-right}
 use Rattle.texel.proofs.Shares.{half_high}

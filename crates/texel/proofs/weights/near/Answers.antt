@@ -1,5 +1,5 @@
 -- `texel::weights::near` meets its contract: the block and its texel are where the nine blocks have the place. Assumes nothing.
-use native.Mathlib.Omega.{arith}
+use Rattle.std.proofs.Common.{arith}
 use Rattle.texel.proofs.Made.{near-is}
 use Rattle.texel.proofs.Shares.{half_high}
 use Rattle.texel.proofs.weights.near.Goals as goal

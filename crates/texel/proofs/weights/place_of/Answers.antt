@@ -1,6 +1,5 @@
 -- `texel::weights::place_of` meets its contract, by the depth. Assumes nothing.
-use mathlib.Core.Path.{refl}
-use native.Mathlib.Omega.{arith}
+use Rattle.std.proofs.Common.{refl, arith}
 use Rattle.texel.proofs.weights.place_of.Goals as goal
 
 pub returns-then-is2bpp : goal.returns-then-is2bpp

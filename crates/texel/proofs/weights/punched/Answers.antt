@@ -1,6 +1,5 @@
 -- `texel::weights::punched` meets its contract, by the depth. Assumes nothing.
-use mathlib.Core.Bool.{true, false}
-use native.Mathlib.Omega.{arith}
+use Rattle.std.proofs.Common.{true, false, arith}
 use Rattle.texel.specs.Inner.{Place}
 use Rattle.texel.proofs.weights.punched.Goals as goal
 

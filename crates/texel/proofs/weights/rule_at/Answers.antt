@@ -1,5 +1,5 @@
 -- `texel::weights::rule_at` meets its contract, by where the texel lies. Assumes nothing.
-use borrow.Author.Tests.{eq-eqb, ne_eqb}
+use Rattle.std.proofs.Common.{eq-eqb, ne_eqb}
 use Rattle.texel.proofs.weights.rule_at.Goals as goal
 
 pub returns-then-px-py-eq0 : goal.returns-then-px-py-eq0

@@ -1,7 +1,5 @@
 -- `texel::weights::weight_at` meets its contract: the middle block starts a block across and four down. Assumes nothing.
-use mathlib.Core.Path.{◌≡◌}
-use Prim.Native.Nat.{◌*◌}
-use native.Mathlib.Omega.{arith}
+use Rattle.std.proofs.Common.{◌≡◌, ◌*◌, arith}
 use Rattle.grid.specs.Grid.{half}
 use Rattle.texel.proofs.Made.{weight}
 use Rattle.texel.proofs.Shares.{half_high, half-low}

@@ -1,6 +1,5 @@
 -- `texel::words::beside` meets its contract, neighbour by neighbour. Assumes nothing.
-use mathlib.Core.Path.{◌≡◌, sym, ap, ◌∙◌}
-use native.Mathlib.Omega.{arith}
+use Rattle.std.proofs.Common.{◌≡◌, sym, ap, ◌∙◌, arith}
 use Rattle.grid.proofs.Powers.{power-above}
 use Rattle.grid.proofs.Torus.{beside-below, beside-own}
 use Rattle.grid.specs.Grid.{beside}

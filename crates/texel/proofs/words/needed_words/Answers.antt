@@ -1,8 +1,5 @@
 -- `texel::words::needed_words` meets its contract. The loop keeps that the first k words are read, as far as they are needed. Assumes nothing.
-use mathlib.Core.Path.{refl}
-use Prim.Native.Nat.{◌/◌, ◌%◌}
-use native.Mathlib.Nat.{mul-le-mul}
-use native.Mathlib.Omega.{arith}
+use Rattle.std.proofs.Common.{refl, ◌/◌, ◌%◌, mul-le-mul, arith}
 use Rattle.facts.proofs.Tab.{filled_none, filled_more, filled-end}
 use Rattle.texel.specs.Needed.{needed_about}
 use Rattle.texel.proofs.words.needed_words.Goals as goal

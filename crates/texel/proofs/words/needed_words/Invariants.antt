@@ -1,6 +1,5 @@
 -- `texel::words::needed_words` meets its contract. The loop keeps that the first k words are read, as far as they are needed. Assumes nothing.
-use Prim.Native.Nat.{◌-◌, ◌*◌, ◌≤◌, ◌/◌, ◌%◌}
-use lib.ListN.{get_or}
+use Rattle.std.proofs.Common.{◌-◌, ◌*◌, ◌≤◌, ◌/◌, ◌%◌, get_or}
 use Rattle.facts.proofs.Tab.{Filled}
 use Rattle.texel.specs.Needed.{word_about, word_if}
 use Rattle.texel.proofs.words.needed_words.Given as goal

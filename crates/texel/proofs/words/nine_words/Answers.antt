@@ -1,8 +1,5 @@
 -- `texel::words::nine_words` meets its contract. The loop keeps that the first k words are read. Assumes nothing.
-use mathlib.Core.Path.{refl, ap, ◌∙◌}
-use Prim.Native.Nat.{ℕ, ◌*◌}
-use native.Mathlib.Omega.{arith}
-use lib.ListN.{drop}
+use Rattle.std.proofs.Common.{refl, ap, ◌∙◌, ℕ, ◌*◌, arith, drop}
 use Rattle.facts.proofs.Tab.{filled_none, filled_more, filled-end}
 use Rattle.grid.proofs.Words.{exact}
 use Rattle.word.specs.Word.{word_of}

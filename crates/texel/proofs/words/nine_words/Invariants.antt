@@ -1,5 +1,5 @@
 -- `texel::words::nine_words` meets its contract. The loop keeps that the first k words are read. Assumes nothing.
-use Prim.Native.Nat.{◌-◌, ◌≤◌}
+use Rattle.std.proofs.Common.{◌-◌, ◌≤◌}
 use Rattle.facts.proofs.Tab.{Filled}
 use Rattle.texel.specs.Needed.{word_about}
 use Rattle.texel.proofs.words.nine_words.Given as goal

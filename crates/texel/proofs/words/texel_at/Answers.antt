@@ -1,6 +1,5 @@
 -- `texel::words::texel_at` meets its contract: `Needed` has that the words with a share give the texel. Assumes nothing.
-use Prim.Native.Nat.{◌%◌}
-use native.Mathlib.Omega.{arith}
+use Rattle.std.proofs.Common.{◌%◌, arith}
 use Rattle.grid.proofs.Counts.{wide-as}
 use Rattle.texel.proofs.Across.{row_at, few-shares, few-across}
 use Rattle.texel.proofs.Needed.{needed-read, texel-needed, place}

@@ -1,5 +1,5 @@
 -- `texel::words::word_at` meets its contract: a word at the start of what is left of the data. Assumes nothing.
-use mathlib.Core.Path.{◌∙◌}
+use Rattle.std.proofs.Common.{◌∙◌}
 use Rattle.texel.proofs.Nine.{word-from}
 use Rattle.texel.proofs.words.word_at.Goals as goal
 

@@ -1,9 +1,5 @@
 -- `texel::words::word_if` meets its contract, by the share. Assumes nothing.
-use mathlib.Core.Path.{ap, ◌∙◌}
-use Prim.Native.Nat.{ℕ, ◌*◌}
-use native.Mathlib.Omega.{arith}
-use lib.ListN.{drop}
-use borrow.Author.Tests.{eq-eqb, ne_eqb}
+use Rattle.std.proofs.Common.{ap, ◌∙◌, ℕ, ◌*◌, arith, drop, eq-eqb, ne_eqb}
 use Rattle.grid.proofs.Words.{exact}
 use Rattle.word.specs.Word.{word_of}
 use Rattle.texel.proofs.words.word_if.Goals as goal
