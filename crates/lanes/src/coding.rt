@@ -14,16 +14,40 @@ const CLEAR: u64 = 0x000000ff00ff00ff;
 // What codes 0 to 3 mean in mode 0, and in mode 1.
 static MEANINGS: [[Meaning; 4]; 2] = [
     [
-        Meaning { weight: 0, keep: KEPT },
-        Meaning { weight: 3, keep: KEPT },
-        Meaning { weight: 5, keep: KEPT },
-        Meaning { weight: 8, keep: KEPT },
+        Meaning {
+            weight: 0,
+            keep: KEPT,
+        },
+        Meaning {
+            weight: 3,
+            keep: KEPT,
+        },
+        Meaning {
+            weight: 5,
+            keep: KEPT,
+        },
+        Meaning {
+            weight: 8,
+            keep: KEPT,
+        },
     ],
     [
-        Meaning { weight: 0, keep: KEPT },
-        Meaning { weight: 4, keep: KEPT },
-        Meaning { weight: 4, keep: CLEAR },
-        Meaning { weight: 8, keep: KEPT },
+        Meaning {
+            weight: 0,
+            keep: KEPT,
+        },
+        Meaning {
+            weight: 4,
+            keep: KEPT,
+        },
+        Meaning {
+            weight: 4,
+            keep: CLEAR,
+        },
+        Meaning {
+            weight: 8,
+            keep: KEPT,
+        },
     ],
 ];
 
@@ -55,7 +79,14 @@ impl Modulation for Codes {
         }
     }
 
-    fn fill(_left: Codes, own: Codes, _right: Codes, _d: &[u8], _row: RowAddresses, _part: usize) -> Codes {
+    fn fill(
+        _left: Codes,
+        own: Codes,
+        _right: Codes,
+        _d: &[u8],
+        _row: RowAddresses,
+        _part: usize,
+    ) -> Codes {
         own
     }
 

@@ -159,7 +159,7 @@ pub fn summed(d: &[u8], above: usize, own: usize, below: usize, order: ChannelOr
 
 impl Sums {
     // The sum of shares at place 0 of 2h.
-    pub fn first(self, h: usize) -> u64
+    pub(crate) fn first(self, h: usize) -> u64
         requires { (h ≤ 4) × SmallSums self }
         ensures { result ≡ across h self 0 }
     {
@@ -167,7 +167,7 @@ impl Sums {
     }
 
     // From the one at place i to the one at the next place.
-    pub fn step(self, h: usize, i: usize, sum: u64) -> u64
+    pub(crate) fn step(self, h: usize, i: usize, sum: u64) -> u64
         requires h_bound { (h ≤ 4) × (i < 2 * h) × (sum ≡ across h self i) }
         requires small { SmallSums self }
         ensures { result ≡ across h self (i + 1) }

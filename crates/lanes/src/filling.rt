@@ -185,7 +185,14 @@ impl Modulation for Weights {
         read_rows(d, z)
     }
 
-    fn fill(left: Weights, own: Weights, right: Weights, d: &[u8], row: RowAddresses, part: usize) -> Weights {
+    fn fill(
+        left: Weights,
+        own: Weights,
+        right: Weights,
+        d: &[u8],
+        row: RowAddresses,
+        part: usize,
+    ) -> Weights {
         let rule = read_rule(d, part + row.above, part + row.own, part + row.below);
         fill_rows(left, own, right, rule)
     }

@@ -16,7 +16,14 @@ use paint::Sheet;
 use pixel::ChannelOrder;
 
 // The first `columns` texels of a row, laid from word `at` on.
-fn lay_row<M: Modulation>(a: Sums, b: Sums, row: M::Row, columns: usize, at: usize, image: &mut [u32])
+fn lay_row<M: Modulation>(
+    a: Sums,
+    b: Sums,
+    row: M::Row,
+    columns: usize,
+    at: usize,
+    image: &mut [u32],
+)
     requires small_sums { SmallSums a × SmallSums b }
     requires columns_bound { (columns ≤ 2 * M.HALF) × (at + columns ≤ length image.old) }
     ensures { image.new ≡ painted at columns columns 1 (λ x y. in_row M.HALF (M.says row) a b x) image.old }
@@ -66,8 +73,14 @@ fn lay_block<M: Modulation>(
     }
 }
 
-// Column x of a row.
-fn block_at<M: Modulation>(data: &[u8], row: RowAddresses, x: usize, order: ChannelOrder) -> Block<M>
+// Column x of a row. As a call it would copy each block out, which takes 3 in 100 more instructions at 2bpp.
+#[inline(always)]
+fn block_at<M: Modulation>(
+    data: &[u8],
+    row: RowAddresses,
+    x: usize,
+    order: ChannelOrder,
+) -> Block<M>
     requires placed { Placed row.smaller x 0 }
     requires in_column { InColumn row (address (log2 row.smaller) x 0) (length «data».now) }
     ensures { (result ≡ block_of M.stored order «data».now row (address (log2 row.smaller) x 0)) × SmallColumn result.column × M.Good result.said }

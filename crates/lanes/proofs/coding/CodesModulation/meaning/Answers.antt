@@ -11,9 +11,9 @@ use Rattle.lanes.proofs.coding.CodesModulation.meaning.Goals as goal
 abbrev told : Bool → ℕ → Meaning
 told p k =
     slice_index_or (slice_index_or {A = List Meaning} (
-      (record { weight = 0; keep = bytes } ∷ record { weight = 3; keep = bytes } ∷ record { weight = 5; keep = bytes } ∷ record { weight = 8; keep = bytes } ∷ [])
-      ∷ (record { weight = 0; keep = bytes } ∷ record { weight = 4; keep = bytes } ∷ record { weight = 4; keep = clear } ∷ record { weight = 8; keep = bytes } ∷ [])
-      ∷ []
+    (record { weight = 0; keep = bytes } ∷ record { weight = 3; keep = bytes } ∷ record { weight = 5; keep = bytes } ∷ record { weight = 8; keep = bytes } ∷ [])
+    ∷ (record { weight = 0; keep = bytes } ∷ record { weight = 4; keep = bytes } ∷ record { weight = 4; keep = clear } ∷ record { weight = 8; keep = bytes } ∷ [])
+    ∷ []
     ) (bool_byte p) []) k (record { weight = 0; keep = 0 })
 
 abbrev Means : Bool → ℕ → Meaning → Type 0
