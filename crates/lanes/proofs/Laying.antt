@@ -11,7 +11,7 @@ use Rattle.paint.specs.Paint.{painted}
 use Rattle.lanes.specs.declared.Sums.{Sums}
 use Rattle.lanes.specs.declared.Column.{Column}
 use Rattle.lanes.specs.declared.Meaning.{Meaning}
-use Rattle.lanes.specs.Column.{across, most, sums_at, SmallColumn, SmallSums}
+use Rattle.lanes.specs.Column.{across, sums_at, SmallColumn, SmallSums}
 use Rattle.lanes.specs.Lanes.{fitted, mixed_lanes, texel_lanes}
 use Rattle.lanes.proofs.Linear.{sums-fit}
 

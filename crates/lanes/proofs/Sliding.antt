@@ -16,7 +16,6 @@ use Rattle.pixel.specs.declared.ChannelOrder.{ChannelOrder}
 use Rattle.texel.proofs.Range.{words}
 use Rattle.texel.specs.Texel.{texel_in, texel_at, grid_texel}
 use Rattle.lanes.specs.declared.Block.{Block}
-use Rattle.lanes.specs.declared.Column.{Column}
 use Rattle.lanes.specs.declared.Meaning.{Meaning}
 use Rattle.lanes.specs.declared.RowAddresses.{RowAddresses}
 use Rattle.lanes.specs.Block.{Said, Middle, in_block, block_of}

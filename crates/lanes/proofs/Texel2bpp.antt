@@ -11,10 +11,8 @@ use Rattle.facts.proofs.Finite.{below}
 use Rattle.facts.proofs.Tab.{get_or-tab}
 use Rattle.facts.specs.Bits.{is_set}
 use Rattle.facts.specs.Tab.{tab}
-use Rattle.pixel.specs.Pixel.{packed}
-use Rattle.pixel.specs.declared.ChannelOrder.{ChannelOrder}
 use Rattle.texel.proofs.Range.{words, filled-le}
-use Rattle.texel.specs.Texel.{Words, near, filled, rule_at, punched, texel_in}
+use Rattle.texel.specs.Texel.{Words, near, filled, rule_at, punched}
 use Rattle.word.proofs.Bounds.{weights-2, never-punched}
 use Rattle.word.specs.declared.Fill.TheVariants.{Nothing, Around, AboveBelow, LeftRight}
 use Rattle.word.specs.Word.{modulation, mode, weight2bpp, fill2bpp, word_of}
@@ -22,7 +20,7 @@ use Rattle.lanes.specs.declared.FillRule.{FillRule}
 use Rattle.lanes.specs.declared.Weights.{Weights}
 use Rattle.lanes.specs.Block.{Said}
 use Rattle.lanes.specs.Block2bpp.{in_bytes, weight_row, weight_rows, weight_meaning, fill_rule_of, odds, evens, filled_at, filled_rows}
-use Rattle.lanes.specs.Lanes.{bytes, clear, texel_lanes}
+use Rattle.lanes.specs.Lanes.{bytes, clear}
 use Rattle.lanes.proofs.ByteLanes.{bytes_same, mask_of, fill_at, filled_is, byte_at}
 use Rattle.lanes.proofs.Texel4bpp.{mode-is}
 

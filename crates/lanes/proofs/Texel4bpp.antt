@@ -2,13 +2,13 @@
 use mathlib.Core.Path.{◌≡◌, refl, sym, ap, ◌∙◌}
 use mathlib.Core.Bool.{Bool, true, false, cond, ◌&&◌}
 use mathlib.Core.List.{List}
-use Prim.Native.Nat.{ℕ, ◌+◌, ◌*◌, ◌/◌, ◌%◌, ◌^◌, ◌≤◌, ◌<◌}
+use Prim.Native.Nat.{ℕ, ◌+◌, ◌*◌, ◌/◌, ◌%◌, ◌^◌}
 use native.Mathlib.Omega.{arith}
-use lib.Dec.{eqb, eqb→eq, leb, leb→le}
+use lib.Dec.{eqb}
 use lib.ListN.{get_or}
 use lib.Pow.{shr-shr}
 use borrow.Author.Tests.{eq-eqb, ne_eqb}
-use Rattle.texel.specs.Texel.{Words, near, filled, rule_at, punched, texel_in}
+use Rattle.texel.specs.Texel.{Words, near, filled, rule_at, punched}
 use Rattle.texel.proofs.Range.{words}
 use Rattle.word.proofs.Bounds.{weights-4, punch-bit, never-filled}
 use Rattle.word.specs.declared.Fill.{Fill}

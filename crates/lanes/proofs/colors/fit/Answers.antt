@@ -1,6 +1,6 @@
 -- `lanes::colors::fit` meets its contract: it computes the definition, and no product grows out of 64 bits. Assumes nothing.
 use mathlib.Core.Path.{◌≡◌, refl}
-use Prim.Native.Nat.{ℕ, ◌*◌, ◌-◌, ◌/◌, ◌<◌, ◌≤◌}
+use Prim.Native.Nat.{ℕ, ◌*◌, ◌-◌, ◌/◌, ◌≤◌}
 use native.Mathlib.Omega.{arith}
 use lib.Bits.{bit_and, and_le_r}
 use Rattle.lanes.specs.Lanes.{bytes, multiples, grown}

@@ -1,8 +1,8 @@
 -- `lanes::row::decode_row` meets its contract. The loop keeps the window before block bx and the blocks laid so far. Assumes nothing.
-use Rattle.std.proofs.Common.{◌≡◌, refl, ap, ℕ, ◌+◌, ◌*◌, ◌<◌, ◌≤◌, length, arith}
-use Rattle.paint.proofs.Sheets.{fits_more, no_blocks, all_blocks}
+use Rattle.std.proofs.Common.{refl, arith}
+use Rattle.paint.proofs.Sheets.{no_blocks}
 use Rattle.lanes.specs.Block.{in_block}
-use Rattle.lanes.proofs.Placing.{first-column, last-column, row-at, asked, in-column, covers, starts, width_is}
+use Rattle.lanes.proofs.Placing.{first-column, last-column, row-at, asked, in-column, starts, width_is}
 use Rattle.lanes.proofs.Sliding.{slide, block-seen, seen-part, said-is, nine_about, middle, texels, row_texel, part-fits, block-laid}
 use Rattle.lanes.proofs.row.decode_row.Goals as goal
 

@@ -1,5 +1,5 @@
 -- `lanes::row::lay_block` meets its contract. The loop keeps that the rows before row j are laid. Assumes nothing.
-use Rattle.std.proofs.Common.{refl, ◌+◌, ◌*◌, ◌≤◌, ◌<◌, length, arith}
+use Rattle.std.proofs.Common.{refl, arith}
 use Rattle.paint.proofs.Laid.{part_none, row-part}
 use Rattle.paint.proofs.Sheets.{row-in-room}
 use Rattle.lanes.proofs.row.lay_block.Goals as goal

@@ -1,6 +1,5 @@
 -- `lanes::row::lay_row` meets its contract. The loop keeps the two sums of place i, and that the words before it are laid. Assumes nothing.
-use Rattle.std.proofs.Common.{◌*◌, ◌<◌, ◌≤◌, arith}
-use Rattle.lanes.proofs.Laying.{row-start, small-enough, half-small, made, word-laid, word_cut, row-end}
+use Rattle.lanes.proofs.Laying.{row-start, small-enough, half-small, made, word-laid, word_cut}
 use Rattle.lanes.proofs.row.lay_row.Goals as goal
 use Rattle.lanes.proofs.row.lay_row.Goals.{then-i-columns, else-i-columns}
 

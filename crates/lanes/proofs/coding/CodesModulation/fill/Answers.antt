@@ -1,5 +1,4 @@
 -- `fill` of `lanes::Codes` meets its contract: at 4bpp nothing is filled. Assumes nothing.
-use Rattle.std.proofs.Common.{refl}
 use Rattle.lanes.proofs.Texel4bpp.{is_said}
 use Rattle.lanes.proofs.coding.CodesModulation.fill.Goals as goal
 
