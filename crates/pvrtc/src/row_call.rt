@@ -45,15 +45,14 @@ pub fn decode_row(data: &[u8], p: Picture, y: usize, row: &mut [u32]) -> Decoded
     let Decoded::Done = checked else {
         return checked;
     };
-    let table = grid::spread_table();
     let g = grid_of(p);
     let order = p.order;
-    let mut nine = texel::first_words(&table, data, g, g.across - 1, y / 4, y % 4);
+    let mut nine = texel::first_words(data, g, g.across - 1, y / 4, y % 4);
     let mut texels = [0u32; 8];
     for x in 0..p.width {
         if place_of(x, g.is2bpp) == 0 {
             let bx = block_of(x, g.is2bpp);
-            let next = texel::next_words(&table, data, g, nine, bx, y / 4, y % 4);
+            let next = texel::next_words(data, g, nine, bx, y / 4, y % 4);
             let width = grid::block_width(g.is2bpp);
             texel::texels_in(next, g.is2bpp, 0, y % 4, width, order, &mut texels);
             nine = next;

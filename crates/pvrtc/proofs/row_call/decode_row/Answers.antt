@@ -48,10 +48,7 @@ first_words-nine-requires c =
     let some = some-across (stands ok) in
     let row = (block_in ok 0 a.y (width_above a.p ok.sides) (row_inside a.p a.y (length a.row.now) ok.inside)).down in
     let grid = c.grid_of-g.ensures in
-    record {
-      table_value = (c.spread_table-table.ensures, stands-as ok grid);
-      in_grid = (rw grid (record { across = omega arith; down = row }), omega arith);
-    }
+    (stands-as ok grid, rw grid (record { across = omega arith; down = row }), omega arith)
 
 pub loop-x-init : goal.loop-x-init
 loop-x-init c =
@@ -77,11 +74,8 @@ block_at l h =
 
 pub next_words-next-requires : goal.next_words-next-requires
 next_words-next-requires c =
-    let table = c.spread_table-table.ensures in
-    record {
-      table_value = (table, stands_at (goal.at.next_words-next-requires c).At-loop-x);
-      in_grid = (rw c.block_of-bx.ensures (block_at (goal.at.next_words-next-requires c).At-loop-x c.loop-x-test.true), omega arith);
-    }
+    let at = (goal.at.next_words-next-requires c).At-loop-x in
+    (stands_at at, rw c.block_of-bx.ensures (block_at at c.loop-x-test.true), omega arith)
 
 pub texels_in-requires : goal.texels_in-requires
 texels_in-requires c =
