@@ -10,10 +10,6 @@ pub wide : (two : Bool) → 0 < block_width two
 wide true = omega arith
 wide false = omega arith
 
--- a width by another name
-pub wide-as : (two : Bool) {w : ℕ} → w ≡ block_width two → 0 < w
-wide-as two e = rw e (wide two)
-
 module _ (size side : ℕ) (pos : 0 < size) where
   -- a side that the size divides
   pub exact : side % size ≡ 0 → side / size ≡ blocks size side
