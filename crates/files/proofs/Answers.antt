@@ -1,63 +1,65 @@
 -- How a reader's answer is met, and what it gives. Assumes nothing.
-use mathlib.Core.Path.{◌≡◌, refl, sym, ap}
-use mathlib.Core.Bool.{Bool, true, false, cond, ◌&&◌, false≢true}
+use mathlib.Core.Path.{◌≡◌, refl, sym, ap, ◌∙◌}
+use mathlib.Core.Bool.{Bool, true, false, cond, ◌&&◌}
 use mathlib.Core.List.{List, [], ◌∷◌}
 use Prim.Native.Nat.{ℕ, ◌<◌}
 use native.Mathlib.Omega.{arith}
-use lib.Dec.{T, eqb, ltb, ltb→lt, lt→ltb}
-use borrow.Author.Tests.{eqb-true, eqb-false, ne_eqb}
-use Rattle.facts.specs.Checks.{Check, first_of}
+use lib.Dec.{T, ltb, ltb→lt, lt→ltb}
+use Rattle.std.specs.Prelude.{Result, Ok, Err}
+use Rattle.facts.specs.Checks.{Check, check, first_of}
 use Rattle.facts.proofs.Finite.{and_left, and_right}
-use Rattle.files.specs.Reading.{Says, reading_of}
-use Rattle.files.specs.declared.Reading.{Reading}
-use Rattle.files.specs.declared.Reading.TheVariants.{Plate, Refused}
+use Rattle.facts.proofs.Said.{same-answer}
+use Rattle.files.specs.Reading.{Says, Shown}
 use Rattle.files.specs.declared.Stored.{Stored}
 
--- the number of an answer: 0 where it is a plate
-abbrev number_of : Reading → ℕ
-number_of (Plate p) = 0
-number_of (Refused n) = n
-
--- whether an answer is a plate
-abbrev is_plate : Reading → Bool
-is_plate (Plate p) = true
-is_plate (Refused n) = false
-
 -- the plate of an answer, or another one where it is a refusal
-abbrev plate_or : Stored → Reading → Stored
-plate_or other (Plate p) = p
-plate_or other (Refused n) = other
+abbrev plate_or : {E : Type 0} → Stored → Result Stored E → Stored
+plate_or other (Ok p) = p
+plate_or other (Err f) = other
 
-module _ (s : Says) where
-  -- a number is said, or none
-  pub by_number : {n : ℕ} → n ≡ first_of s.refusals → 0 < n → Refused n ≡ reading_of s
-  by_number {n} e h =
-      let other : eqb (first_of s.refusals) 0 ≡ false = ne_eqb (first_of s.refusals) 0 (λ q. omega arith) in
-      rw other (ap Refused e)
+module _ {E : Type 0} {number : E → ℕ} {s : Says} where
+  -- a reason is said, or none
+  pub by_number : {f : E} → number f ≡ first_of s.refusals → Shown number s (Err f)
+  by_number e = record { refusal = e; plate = tt }
 
-  pub by-plate : {p : Stored} → 0 ≡ first_of s.refusals → p ≡ s.plate → Plate p ≡ reading_of s
-  by-plate z e = rw (sym z) (ap Plate e)
+  pub by-plate : {p : Stored} → 0 ≡ first_of s.refusals → p ≡ s.plate → Shown number s (Ok p)
+  by-plate z e = record { refusal = z; plate = e }
 
-  -- an answer that is a number is the first refusal's
-  pub of_number : {n : ℕ} → Refused n ≡ reading_of s → (first_of s.refusals ≡ n) × (0 < n)
-  of_number {n} e = by (eqb (first_of s.refusals) 0) refl e
-    where
-      by : (t : Bool) → eqb (first_of s.refusals) 0 ≡ t → Refused n ≡ cond t (Plate s.plate) (Refused (first_of s.refusals))
-          → (first_of s.refusals ≡ n) × (0 < n)
-      by true q r = absurd (false≢true (ap is_plate r))
-      by false q r =
-          let same : n ≡ first_of s.refusals = ap number_of r in
-          let other : first_of s.refusals ≡ 0 → ⊥ = eqb-false _ 0 q in
-          (sym same, omega arith)
+  -- an answer that is a reason has the first refusal's number
+  pub of_number : {f : E} → Shown number s (Err f) → first_of s.refusals ≡ number f
+  of_number a = sym a.refusal
 
   -- one that is a plate is the file's, and nothing is refused
-  pub of-plate : {p : Stored} → Plate p ≡ reading_of s → (first_of s.refusals ≡ 0) × (p ≡ s.plate)
-  of-plate {p} e = by (eqb (first_of s.refusals) 0) refl e
+  pub of-plate : {p : Stored} → Shown number s (Ok p) → (first_of s.refusals ≡ 0) × (p ≡ s.plate)
+  of-plate a = (sym a.refusal, a.plate)
+
+  -- and where no two reasons have the same number, one answer says what a file says
+  module _ (above : (f : E) → 0 < number f) (one_to_one : (f g : E) → number f ≡ number g → f ≡ g) where
+    the-plate : (r : Result Stored E) → Shown number s r → plate_or s.plate r ≡ s.plate
+    the-plate (Ok p) a = a.plate
+    the-plate (Err f) a = refl
+
+    pub one-shown : (q r : Result Stored E) → Shown number s q → Shown number s r → q ≡ r
+    one-shown q r a b =
+        same-answer number above one_to_one (plate_or s.plate) (λ p. refl) q r (a.refusal ∙ sym b.refusal) (the-plate q a ∙ sym (the-plate r b))
+
+-- a check made by itself, of a condition that is the list's: past one that refuses nothing what the rest says is said, and of one that refuses its number
+module _ {holds b : Bool} {n : ℕ} (k : ℕ) (l : List Check) (e : holds ≡ b) where
+  pub past : 0 < k → 0 ≡ first_of (check holds k ∷ []) → n ≡ first_of l → n ≡ first_of (check b k ∷ l)
+  unfolding first_of
+  past h none q = rw (← e) (by holds none)
     where
-      by : (t : Bool) → eqb (first_of s.refusals) 0 ≡ t → Plate p ≡ cond t (Plate s.plate) (Refused (first_of s.refusals))
-          → (first_of s.refusals ≡ 0) × (p ≡ s.plate)
-      by true q r = (eqb-true _ 0 q, ap (plate_or p) r)
-      by false q r = absurd (eqb-false _ 0 q (sym (ap number_of r)))
+      by : (t : Bool) → 0 ≡ cond t k 0 → n ≡ cond t k (first_of l)
+      by true z = absurd (omega (arith, z))
+      by false z = q
+
+  pub stopped : 0 < n → n ≡ first_of (check holds k ∷ []) → n ≡ first_of (check b k ∷ l)
+  unfolding first_of
+  stopped h said = rw (← e) (by holds said)
+    where
+      by : (t : Bool) → n ≡ cond t k 0 → n ≡ cond t k (first_of l)
+      by true z = z
+      by false z = absurd (omega (arith, z))
 
 -- whether all numbers of a list pass a test
 abbrev pub numbers_pass : (test : ℕ → Bool) → List Check → Bool

@@ -3,16 +3,20 @@ use mathlib.Core.Path.{◌≡◌, refl, sym, ap, ◌∙◌}
 use mathlib.Core.Bool.{Bool, true, false, not}
 use mathlib.Core.List.{List, ◌++◌}
 use mathlib.Core.Logic.{⊎_elim}
-use Prim.Native.Nat.{ℕ, ◌+◌, ◌-◌, ◌*◌, ◌/◌, ◌%◌, ◌<◌, ◌≤◌, min}
-use native.Mathlib.Nat.{add_assoc, div-one, div-div-eq-div-mul, div-add-mod', mod-eq_of_lt}
+use Prim.Native.Nat.{ℕ, zero, suc, ◌^◌, ◌+◌, ◌-◌, ◌*◌, ◌/◌, ◌%◌, ◌<◌, ◌≤◌, min}
+use native.Mathlib.Nat.{pow-le-pow_right, zero-lt-suc, div-eq_of_lt, add_assoc, div-one, div-div-eq-div-mul, div-add-mod', mod-eq_of_lt}
 use native.Mathlib.Omega.{arith}
 use lib.Dec.{T}
-use lib.ListN.{length, get_or, take, drop, length-drop, drop_of_length-le, get_or-append}
+use lib.ListN.{length, get_or, take, drop, length-drop, drop_of_length-le, get_or-append, get_or-eq_default}
+use Rattle.std.specs.Slice.{IsGetRangeResult}
+use Rattle.std.specs.Option.{unwrap_or}
+use Rattle.std.specs.Int.{to_le_bytes, from_le_bytes, w32, w64}
+use Rattle.std.proofs.Common.{Option, None, Some, Bor, [], ◌≢◌, below_more, set, get_or-set_other, get_or-set_same}
 use lib.Seq.{ext_get_or, get_or-drop, take_all}
 use Rattle.facts.specs.Finite.{all_below}
 use Rattle.facts.proofs.Finite.{below}
 use Rattle.facts.proofs.Numbers.{lt-or-le}
-use Rattle.files.specs.Fields.{u32_at, byte_of, bits_of}
+use Rattle.files.specs.Fields.{u32_at, u64_at, byte_of, bits_of}
 
 -- two files with the same four bytes from a place on have the same number there
 pub same-field : (f g : List ℕ) (at : ℕ) → ((k : ℕ) → k < 4 → get_or f (at + k) 0 ≡ get_or g (at + k) 0) → u32_at f at ≡ u32_at g at
@@ -51,17 +55,6 @@ bytes_read file at v h e =
     let none : at + 0 ≡ at = omega arith in
     rw (rw none at (e 0 (omega arith)), e 1 (omega arith), e 2 (omega arith), e 3 (omega arith)) (four_bytes v h)
 
--- a number read at a place, or no places after it
-pub here : (file : List ℕ) (at : ℕ) {n : ℕ} → n ≡ u32_at file (at + 0) → n ≡ u32_at file at
-here file at e = e ∙ ap (u32_at file) (omega arith)
-
--- where a place is named in two parts, the number is that of the four bytes there
-pub from_parts : (file : List ℕ) (at k : ℕ)
-    → get_or file (at + k) 0 + 256 * get_or file (at + (k + 1)) 0 + 65536 * get_or file (at + (k + 2)) 0 + 16777216 * get_or file (at + (k + 3)) 0
-    ≡ u32_at file (at + k)
-unfolding u32_at
-from_parts file at k = rw (add_assoc at k 1, add_assoc at k 2, add_assoc at k 3)
-
 -- later bytes leave a number as it is
 pub field-before : (file more : List ℕ) (at : ℕ) → at + 4 ≤ length file → u32_at (file ++ more) at ≡ u32_at file at
 field-before file more at h = same-field (file ++ more) file at (λ k l. get_or-append file more 0 (at + k) (omega arith))
@@ -88,3 +81,59 @@ same-depth true true e = refl
 same-depth true false e = absurd (omega arith)
 same-depth false true e = absurd (omega arith)
 same-depth false false e = refl
+
+-- a list that has the first k numbers of another, with number k put after them
+pub next-read : (bytes rest : List ℕ) {k v : ℕ} → k < length bytes → v ≡ get_or rest k 0 → ((j : ℕ) → j < k → get_or bytes j 0 ≡ get_or rest j 0)
+    → (j : ℕ) → j < k + 1 → get_or (set bytes k v) j 0 ≡ get_or rest j 0
+next-read bytes rest {k} within read before =
+    below_more _ _ (λ j h. let other : j ≢ k = omega arith in rw get_or-set_other (before j h)) (rw get_or-set_same read)
+
+-- the rest of a file from a place on, or nothing where the place is behind its end: what is read there is read from the file
+pub rest-read : (file : List ℕ) (at k : ℕ) (rest : Option (Bor (List ℕ))) (none : Bor (List ℕ)) {found : Bor (List ℕ)}
+    → IsGetRangeResult file at (length file) rest → none.now ≡ [] → found ≡ unwrap_or rest none → get_or found.now k 0 ≡ get_or file (at + k) 0
+rest-read file at k None none past z e =
+    let behind : length file ≤ at + k = ⊎_elim (λ (l : length file < at). omega arith) (λ (l : length file < length file). omega arith) past.0 in
+    ap (λ (b : Bor (List ℕ)). get_or b.now k 0) e ∙ ap (λ (l : List ℕ). get_or l k 0) z ∙ sym (get_or-eq_default file 0 {n = at + k} behind)
+rest-read file at k (Some x) none part z e =
+    ap (λ (b : Bor (List ℕ)). get_or b.now k 0) e
+    ∙ ap (λ (l : List ℕ). get_or l k 0) (part.0.2 ∙ take_all (length file - at) (drop at file) (omega (arith, length-drop at file)))
+    ∙ get_or-drop at file k 0
+
+-- bytes read one by one, put together as the library puts them
+pub four-read : (file : List ℕ) (at : ℕ) (bytes : List ℕ) → ((k : ℕ) → k < 4 → get_or bytes k 0 ≡ get_or file (at + k) 0)
+    → from_le_bytes w32 bytes ≡ u32_at file at
+unfolding u32_at
+four-read file at bytes e = let none : at + 0 ≡ at = omega arith in rw (e 0 (omega arith), none, e 1 (omega arith), e 2 (omega arith), e 3 (omega arith)) (omega arith)
+
+pub eight-read : (file : List ℕ) (at : ℕ) (bytes : List ℕ) → ((k : ℕ) → k < 8 → get_or bytes k 0 ≡ get_or file (at + k) 0)
+    → from_le_bytes w64 bytes ≡ u64_at file at
+unfolding u32_at
+eight-read file at bytes e =
+    let none : at + 0 ≡ at = omega arith in
+    rw (
+      e 0 (omega arith),
+      none,
+      e 1 (omega arith),
+      e 2 (omega arith),
+      e 3 (omega arith),
+      e 4 (omega arith),
+      e 5 (omega arith),
+      e 6 (omega arith),
+      e 7 (omega arith),
+      add_assoc at 4 1,
+      add_assoc at 4 2,
+      add_assoc at 4 3,
+    ) (omega arith)
+
+-- the bytes that the library writes of a number
+no-fifth : (v k : ℕ) → v < 4294967296 → 4 ≤ k → byte_of v k ≡ 0
+no-fifth v k h l =
+    let above : 256 ^ 4 ≤ 256 ^ k = pow-le-pow_right (zero-lt-suc 255) l in
+    ap (λ (n : ℕ). n % 256) (div-eq_of_lt {n = v} {m = 256 ^ k} (omega arith))
+
+pub bytes-written : (v k : ℕ) → v < 4294967296 → get_or (to_le_bytes w32 v) k 0 ≡ byte_of v k
+bytes-written v zero h = rw (div-one v) refl
+bytes-written v (suc zero) h = refl
+bytes-written v (suc (suc zero)) h = refl
+bytes-written v (suc (suc (suc zero))) h = refl
+bytes-written v (suc (suc (suc (suc k)))) h = sym (no-fifth v (suc (suc (suc (suc k)))) h (omega arith))

@@ -3,14 +3,14 @@ use mathlib.Core.Path.{◌≡◌, refl, sym, ap, ◌∙◌}
 use mathlib.Core.Bool.{Bool, true, false, ◌&&◌}
 use mathlib.Core.List.{List, [], ◌∷◌, ◌++◌}
 use mathlib.Core.Logic.{⊎_elim}
-use Prim.Native.Nat.{ℕ, suc, ◌+◌, ◌<◌, ◌≤◌}
+use Prim.Native.Nat.{ℕ, suc, ◌<◌, ◌≤◌}
 use native.Mathlib.Nat.{le_of_suc-le-suc, not-suc-le-zero}
-use native.Mathlib.Numerals.{add-one}
 use native.Mathlib.Omega.{arith}
 use lib.Dec.{eqb, ltb}
-use lib.ListN.{length, get_or, drop, length-append, get_or-append, drop_of_length-le}
-use lib.Seq.{drop-cons}
-use borrow.Author.Tests.{eq-eqb, ne_eqb, lt-ltb, le-ltb, ltb-true, ltb-false}
+use lib.ListN.{length, get_or, take, length-append, get_or-append}
+use lib.Pointwise.{pointwise}
+use borrow.Author.Tests.{lt-ltb, le-ltb, ltb-true, ltb-false}
+use Rattle.std.proofs.lemmas.Cmp.{nat_eq_equiv}
 use Rattle.facts.proofs.Numbers.{lt-or-le}
 use Rattle.files.specs.Fields.{starts_with}
 
@@ -24,29 +24,6 @@ too_short (a ∷ f) (b ∷ p) h = rw (← too_short f p (le_of_suc-le-suc h)) (w
     with-false : (t : Bool) → false ≡ (t && false)
     with-false true = refl
     with-false false = refl
-
--- the first i bytes are alike: what the rest says is what the whole says
-pub record Alike (f p : List ℕ) (i : ℕ) : Type 0 where
-  pub rest : starts_with f p ≡ starts_with (drop i f) (drop i p)
-
-pub alike-none : (f p : List ℕ) → Alike f p 0
-alike-none f p = record { rest = refl }
-
-module _ {f p : List ℕ} {i : ℕ} (a : Alike f p i) where
-  -- byte i decides, or is passed
-  split : i < length f → i < length p → starts_with f p ≡ (eqb (get_or f i 0) (get_or p i 0) && starts_with (drop (suc i) f) (drop (suc i) p))
-  unfolding starts_with
-  split hf hp = a.rest ∙ rw (drop-cons f i 0 hf, drop-cons p i 0 hp)
-
-  pub alike-more : i < length f → i < length p → get_or f i 0 ≡ get_or p i 0 → Alike f p (i + 1)
-  alike-more hf hp e = record { rest = split hf hp ∙ rw (eq-eqb _ _ e, add-one i) }
-
-  pub alike-not : i < length f → i < length p → (get_or f i 0 ≡ get_or p i 0 → ⊥) → false ≡ starts_with f p
-  alike-not hf hp n = rw (split hf hp, ne_eqb _ _ n)
-
-  pub alike_end : length p ≤ i → true ≡ starts_with f p
-  unfolding starts_with
-  alike_end h = rw (a.rest, drop_of_length-le p h)
 
 -- two files that are long enough and alike there start with the same bytes
 pub same_start : (f g p : List ℕ) → length p ≤ length f → length p ≤ length g → ((i : ℕ) → i < length p → get_or f i 0 ≡ get_or g i 0)
@@ -76,3 +53,10 @@ start-alike f g p h e =
 pub start-even : (f g p : List ℕ) → length f ≡ length g → ((i : ℕ) → i < length p → get_or f i 0 ≡ get_or g i 0)
     → starts_with f p ≡ starts_with g p
 start-even f g p h e = start-alike f g p (ap (λ (n : ℕ). ltb n (length p)) h) e
+
+-- the library's comparison, byte by byte of what is compared
+pub start-compared : (f p : List ℕ) → pointwise eqb p (take (length p) f) ≡ starts_with f p
+unfolding starts_with
+start-compared f [] = refl
+start-compared [] (b ∷ p) = refl
+start-compared (a ∷ f) (b ∷ p) = rw (nat_eq_equiv.symm b a, start-compared f p) refl

@@ -2,5 +2,4 @@ pub mod Answers
 pub mod AnyFlags
 pub mod NoEffect
 pub mod OneNumber
-pub mod Shown
 pub mod Unique

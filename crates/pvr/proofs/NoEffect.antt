@@ -7,7 +7,9 @@ use native.Mathlib.Omega.{arith}
 use lib.Dec.{T, ltb}
 use lib.ListN.{length, get_or, length-append, get_or-append}
 use borrow.Author.Tests.{ltb-false, le-ltb, lt-leb}
-use Rattle.pvr.specs.declared.Header.{Header}
+use Rattle.std.specs.Prelude.{Result}
+use Rattle.pvr.specs.declared.HeaderRefusal.{HeaderRefusal}
+use Rattle.pvr.specs.declared.Plate.{Plate}
 use Rattle.facts.specs.Finite.{all_below}
 use Rattle.files.specs.Fields.{u32_at}
 use Rattle.files.proofs.Answers.{SameSays}
@@ -84,7 +86,7 @@ module _ {f g : List ℕ} (s : SameHeader f g) where
       let metadata : metadata_size f ≡ metadata_size g = omega (arith, same-payload) in
       record { number = same_number; plate = rw (same_width, same-height, same_format, metadata) refl }
 
-  pub no-effect : {r : Header} → HeaderRead f r → HeaderRead g r
+  pub no-effect : {r : Result Plate HeaderRefusal} → HeaderRead f r → HeaderRead g r
   no-effect p =
       record {
         number = p.number ∙ same_number;

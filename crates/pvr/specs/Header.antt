@@ -1,14 +1,13 @@
 -- The PVR version 3 header, as document 01 says it ("The program and its two published layouts"), with the numbers that document 02 gives to the
 -- fields (W4) and with its refusal of flags (W7). Assumes nothing: these are definitions.
 -- `file` is the list of the file's bytes; a byte past its end counts as 0.
-use Rattle.std.specs.Prelude.{◌≡◌, Bool, not, ◌||◌, List, [], ◌∷◌, ℕ, ◌+◌, eqb, ltb, length}
-use Rattle.facts.specs.Checks.{Check, check, first_of}
+use Rattle.std.specs.Prelude.{◌≡◌, Bool, not, ◌||◌, List, [], ◌∷◌, ℕ, ◌+◌, eqb, ltb, length, Result, Ok, Err}
+use Rattle.facts.specs.Checks.{Check, check, first_of, number_said}
 use Rattle.files.specs.Fields.{u32_at, u64_at, starts_with, bits_of, unless_refused}
-use Rattle.pvr.specs.declared.Header.{Header}
-use Rattle.pvr.specs.declared.Header.TheVariants.{Plate, Refused}
 use Rattle.pvr.specs.declared.HeaderRefusal.{HeaderRefusal}
 use Rattle.pvr.specs.declared.HeaderRefusal.TheVariants.{ShortHeader, NotPvr, UnknownFlags, UnknownFormat}
 use Rattle.pvr.specs.declared.HeaderRefusal.TheVariants.{DepthNotOne, SurfacesNotOne, FacesNotOne, NoLevel}
+use Rattle.pvr.specs.declared.Plate.{Plate}
 
 -- The header: 52 bytes.
 abbrev pub header_size : ℕ
@@ -132,32 +131,31 @@ number_of FacesNotOne = 16
 number_of NoLevel = 17
 
 -- The number that an answer says: 0 for none.
-abbrev pub header_number : Header → ℕ
-header_number (Plate width height two payload) = 0
-header_number (Refused f) = number_of f
+abbrev pub header_number : Result Plate HeaderRefusal → ℕ
+header_number r = number_said number_of r
 
 -- The width that an answer gives: 0 where it refuses.
-abbrev pub header_width : Header → ℕ
-header_width (Plate width height two payload) = width
-header_width (Refused f) = 0
+abbrev pub header_width : Result Plate HeaderRefusal → ℕ
+header_width (Ok p) = p.width
+header_width (Err f) = 0
 
 -- The height that an answer gives: 0 where it refuses.
-abbrev pub header_height : Header → ℕ
-header_height (Plate width height two payload) = height
-header_height (Refused f) = 0
+abbrev pub header_height : Result Plate HeaderRefusal → ℕ
+header_height (Ok p) = p.height
+header_height (Err f) = 0
 
 -- The bits a texel that an answer gives: 0 where it refuses.
-abbrev pub header_bits : Header → ℕ
-header_bits (Plate width height two payload) = bits_of two
-header_bits (Refused f) = 0
+abbrev pub header_bits : Result Plate HeaderRefusal → ℕ
+header_bits (Ok p) = bits_of p.is2bpp
+header_bits (Err f) = 0
 
 -- The payload offset that an answer gives: 0 where it refuses.
-abbrev pub header_payload : Header → ℕ
-header_payload (Plate width height two payload) = payload
-header_payload (Refused f) = 0
+abbrev pub header_payload : Result Plate HeaderRefusal → ℕ
+header_payload (Ok p) = p.payload
+header_payload (Err f) = 0
 
 -- What is answered of a header with the number n: that number, and where it is 0 the sizes, the bits a texel and the payload offset.
-pub record HeaderAnswered (n : ℕ) (file : List ℕ) (r : Header) : Type 0 where
+pub record HeaderAnswered (n : ℕ) (file : List ℕ) (r : Result Plate HeaderRefusal) : Type 0 where
   pub number : header_number r ≡ n
   pub width : header_width r ≡ unless_refused n (width_field file)
   pub height : header_height r ≡ unless_refused n (height_field file)
@@ -165,5 +163,5 @@ pub record HeaderAnswered (n : ℕ) (file : List ℕ) (r : Header) : Type 0 wher
   pub payload : header_payload r ≡ unless_refused n (payload_offset file)
 
 -- Reading a header: the number is that of its first refusal.
-abbrev pub HeaderRead : List ℕ → Header → Type 0
+abbrev pub HeaderRead : List ℕ → Result Plate HeaderRefusal → Type 0
 HeaderRead file r = HeaderAnswered (header_refusal file) file r

@@ -1,7 +1,6 @@
 -- What a PVR file says, shown as every reader of files shows it. Assumes nothing: these are definitions.
-use Rattle.std.specs.Prelude.{false, List, ℕ}
+use Rattle.std.specs.Prelude.{false, List, ℕ, None}
 use Rattle.files.specs.Reading.{Says}
-use Rattle.files.specs.declared.Size.TheVariants.{Unsaid}
 use Rattle.files.specs.declared.Stored.{Stored}
 use Rattle.pvr.specs.Header.{width_field, height_field, is_two, metadata_size, payload_offset, header_checks}
 
@@ -14,7 +13,7 @@ pvr_plate file =
       is2bpp = is_two file;
       skipped = metadata_size file;
       cut = false;
-      size = Unsaid;
+      size = None;
       payload = payload_offset file;
     }
 

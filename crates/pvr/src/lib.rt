@@ -2,18 +2,20 @@
 #![tactic(auto)]
 
 ghost use Rattle.std.specs.Prelude.{◌≡◌, ◌<◌};
-ghost use Rattle.files.specs.Reading.{reading_of};
+ghost use Rattle.files.specs.Reading.{Shown};
 ghost use Rattle.pvr.specs.Header.{known_flags, levels_field, payload_offset, number_of, HeaderRead};
 ghost use Rattle.pvr.specs.Inner.{CountsSay};
+ghost use Rattle.pvr.specs.Numbers.{number-above, same-refusal};
 ghost use Rattle.pvr.specs.Reading.{pvr_says};
 
-use files::{Reading, Size, Stored};
+use facts::{Numbered, refuse_if};
+use files::Stored;
 
 // The bytes that a header begins with.
 const VERSION: [u8; 4] = [0x50, 0x56, 0x52, 0x03];
 
 // Why a header is refused, in the words of documents 01 and 02.
-#[derive(Clone, Copy)]
+#[derive(Clone, Copy, Debug, PartialEq, Eq)]
 pub enum HeaderRefusal {
     ShortHeader,
     NotPvr,
@@ -25,39 +27,34 @@ pub enum HeaderRefusal {
     NoLevel,
 }
 
-// What reading a header answers.
-#[derive(Clone, Copy)]
-pub enum Header {
-    Plate {
-        width: usize,
-        height: usize,
-        is2bpp: bool,
-        payload: usize,
-    },
-    Refused(HeaderRefusal),
-}
+impl Numbered for HeaderRefusal {
+    ghost number = { number_of };
 
-// What the four fields that count what a file holds say by themselves.
-#[derive(Clone, Copy)]
-enum Counts {
-    OnePlate,
-    Refused(HeaderRefusal),
-}
-
-// The documents' number of a refusal.
-pub fn header_refusal_number(f: HeaderRefusal) -> u64
-    ensures { result ≡ number_of f }
-{
-    match f {
-        HeaderRefusal::ShortHeader => 11,
-        HeaderRefusal::NotPvr => 12,
-        HeaderRefusal::UnknownFlags => 18,
-        HeaderRefusal::UnknownFormat => 13,
-        HeaderRefusal::DepthNotOne => 14,
-        HeaderRefusal::SurfacesNotOne => 15,
-        HeaderRefusal::FacesNotOne => 16,
-        HeaderRefusal::NoLevel => 17,
+    fn number(self) -> u64 {
+        match self {
+            HeaderRefusal::ShortHeader => 11,
+            HeaderRefusal::NotPvr => 12,
+            HeaderRefusal::UnknownFlags => 18,
+            HeaderRefusal::UnknownFormat => 13,
+            HeaderRefusal::DepthNotOne => 14,
+            HeaderRefusal::SurfacesNotOne => 15,
+            HeaderRefusal::FacesNotOne => 16,
+            HeaderRefusal::NoLevel => 17,
+        }
     }
+
+    ghost above_zero = { number-above };
+
+    ghost one_to_one = { same-refusal };
+}
+
+// What a header says of its plate: the sides, the depth and where the first level starts.
+#[derive(Clone, Copy, Debug, PartialEq, Eq)]
+pub struct Plate {
+    pub width: usize,
+    pub height: usize,
+    pub is2bpp: bool,
+    pub payload: usize,
 }
 
 // Whether flags are 0, or 2 for premultiplied.
@@ -68,22 +65,13 @@ fn are_known_flags(flags: u32) -> bool
 }
 
 // The first refusal of the counts whose condition holds: the depth at 32, surfaces at 36, faces at 40, levels at 44.
-fn check_counts(file: &[u8]) -> Counts
+fn check_counts(file: &[u8]) -> Result<(), HeaderRefusal>
     ensures { CountsSay file.now result }
 {
-    if files::u32_at(file, 32) != 1 {
-        return Counts::Refused(HeaderRefusal::DepthNotOne);
-    }
-    if files::u32_at(file, 36) != 1 {
-        return Counts::Refused(HeaderRefusal::SurfacesNotOne);
-    }
-    if files::u32_at(file, 40) != 1 {
-        return Counts::Refused(HeaderRefusal::FacesNotOne);
-    }
-    if files::u32_at(file, 44) == 0 {
-        return Counts::Refused(HeaderRefusal::NoLevel);
-    }
-    Counts::OnePlate
+    refuse_if(files::u32_at(file, 32) != 1, HeaderRefusal::DepthNotOne)?;
+    refuse_if(files::u32_at(file, 36) != 1, HeaderRefusal::SurfacesNotOne)?;
+    refuse_if(files::u32_at(file, 40) != 1, HeaderRefusal::FacesNotOne)?;
+    refuse_if(files::u32_at(file, 44) == 0, HeaderRefusal::NoLevel)
 }
 
 // How many levels the file says that it holds, by the field at 44.
@@ -100,57 +88,37 @@ pub fn payload_offset(file: &[u8]) -> usize
     52 + (files::u32_at(file, 48) as usize)
 }
 
-// The sizes, the depth and the payload offset of the plate that a file holds, or the first refusal whose condition holds.
-pub fn read_header(file: &[u8]) -> Header
+// The plate that a file's header describes, or the first refusal whose condition holds.
+pub fn read_header(file: &[u8]) -> Result<Plate, HeaderRefusal>
     ensures { HeaderRead file.now result }
 {
-    if file.len() < 52 {
-        return Header::Refused(HeaderRefusal::ShortHeader);
-    }
-    if !files::starts_with(file, &VERSION) {
-        return Header::Refused(HeaderRefusal::NotPvr);
-    }
-    if !are_known_flags(files::u32_at(file, 4)) {
-        return Header::Refused(HeaderRefusal::UnknownFlags);
-    }
+    refuse_if(file.len() < 52, HeaderRefusal::ShortHeader)?;
+    refuse_if(!files::starts_with(file, &VERSION), HeaderRefusal::NotPvr)?;
+    let flags = files::u32_at(file, 4);
+    refuse_if(!are_known_flags(flags), HeaderRefusal::UnknownFlags)?;
     let format = files::u64_at(file, 8);
-    if format > 3 {
-        return Header::Refused(HeaderRefusal::UnknownFormat);
-    }
-    let counts = check_counts(file);
-    if let Counts::Refused(f) = counts {
-        return Header::Refused(f);
-    }
-    let width = files::u32_at(file, 28) as usize;
-    let height = files::u32_at(file, 24) as usize;
-    Header::Plate {
-        width: width,
-        height: height,
+    refuse_if(format > 3, HeaderRefusal::UnknownFormat)?;
+    check_counts(file)?;
+    Ok(Plate {
+        width: files::u32_at(file, 28) as usize,
+        height: files::u32_at(file, 24) as usize,
         is2bpp: format < 2,
         payload: payload_offset(file),
-    }
+    })
 }
 
 // What the program is told of a file that is taken as PVR.
-pub fn read_plate(file: &[u8]) -> Reading
-    ensures { result ≡ reading_of (pvr_says file.now) }
+pub fn read_plate(file: &[u8]) -> Result<Stored, HeaderRefusal>
+    ensures { Shown number_of (pvr_says file.now) result }
 {
-    let header = read_header(file);
-    match header {
-        Header::Refused(f) => Reading::Refused(header_refusal_number(f)),
-        Header::Plate {
-            width,
-            height,
-            is2bpp,
-            payload,
-        } => Reading::Plate(Stored {
-            width: width,
-            height: height,
-            is2bpp: is2bpp,
-            skipped: payload - 52,
-            cut: false,
-            size: Size::Unsaid,
-            payload: payload,
-        }),
-    }
+    let plate = read_header(file)?;
+    Ok(Stored {
+        width: plate.width,
+        height: plate.height,
+        is2bpp: plate.is2bpp,
+        skipped: plate.payload - 52,
+        cut: false,
+        size: None,
+        payload: plate.payload,
+    })
 }

@@ -6,6 +6,8 @@ use native.Mathlib.Nat.{not-suc-le-zero, le_of_suc-le-suc, add-mul-mod_self_righ
 use native.Mathlib.Numerals.{add-one}
 use native.Mathlib.Omega.{arith}
 use lib.ListN.{length, get_or, set}
+use Rattle.files.specs.Fields.{byte_of}
+use Rattle.samples.specs.File.{with_u32}
 use Rattle.samples.specs.Sums.{checksum}
 
 -- storing past the end stores nothing
@@ -25,3 +27,20 @@ pub sum_more : (times prime : ℕ) (l : List ℕ) (n : ℕ) {s : ℕ} → s ≡ 
 unfolding checksum
 sum_more times prime l n e =
     ap (λ (s : ℕ). (s % prime * times + get_or l n 0) % prime) e ∙ ap (checksum times prime l) (sym (add-one n))
+
+-- the bytes `old` with the first n of a number from place `at` on
+pub placed : (at v : ℕ) → (old : List ℕ) → ℕ → List ℕ
+placed at v old zero = old
+placed at v old (suc n) = set (placed at v old n) (at + n) (byte_of v n)
+
+pub placed_none : (at v : ℕ) (old : List ℕ) → old ≡ placed at v old 0
+unfolding placed
+placed_none at v old = refl
+
+pub placed_more : (at v : ℕ) (old : List ℕ) (n : ℕ) → set (placed at v old n) (at + n) (byte_of v n) ≡ placed at v old (n + 1)
+unfolding placed
+placed_more at v old n = ap (placed at v old) (sym (add-one n))
+
+pub placed_all : (at v : ℕ) (old : List ℕ) → placed at v old 4 ≡ with_u32 at v old
+unfolding placed
+placed_all at v old = let none : at + 0 ≡ at = omega arith in rw none refl

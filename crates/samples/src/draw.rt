@@ -39,9 +39,9 @@ pub fn draw_bytes(bytes: &mut [u8], state: u64) -> u64
     ensures { Drawn drawn_byte state ((length bytes.old + 1) / 2) bytes.old bytes.new result }
 {
     let mut reached = state;
-    for i in 0..bytes.len() {
+    for (i, byte) in bytes.iter_mut().enumerate() {
         reached = step_before(reached, i);
-        bytes[i] = byte_of(reached, i);
+        *byte = byte_of(reached, i);
     }
     reached
 }
@@ -51,10 +51,10 @@ pub fn draw_words(words: &mut [u32], state: u64) -> u64
     ensures { Drawn drawn_word state (2 * length words.old) words.old words.new result }
 {
     let mut reached = state;
-    for i in 0..words.len() {
+    for word in words.iter_mut() {
         let low = step(reached);
         reached = step(low);
-        words[i] = word_of(low, reached);
+        *word = word_of(low, reached);
     }
     reached
 }

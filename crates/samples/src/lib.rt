@@ -3,7 +3,7 @@
 
 mod draw;
 
-ghost use Rattle.std.specs.Prelude.{◌≡◌, length, set};
+ghost use Rattle.std.specs.Prelude.{◌≡◌, ◌+◌, ◌*◌, ◌%◌, ◌<◌, length, set};
 ghost use Rattle.facts.specs.Tab.{tab};
 ghost use Rattle.samples.specs.File.{file_byte, with_u32};
 ghost use Rattle.samples.specs.Sums.{checksum};
@@ -14,18 +14,17 @@ pub use draw::{draw_bytes, draw_words};
 pub fn lay_file(header: &[u32], bytes: &mut [u8])
     ensures { bytes.new ≡ tab (file_byte header.now) (length bytes.old) }
 {
-    for k in 0..bytes.len() {
-        bytes[k] = file_byte(header, k);
+    for (k, byte) in bytes.iter_mut().enumerate() {
+        *byte = file_byte(header, k);
     }
 }
 
 fn file_byte(header: &[u32], k: usize) -> u8
     ensures { result ≡ file_byte header.now k }
 {
-    if k / 4 < header.len() {
-        files::byte_of(header[k / 4], k % 4)
-    } else {
-        ((37 * (k % 251) + 11) % 251) as u8
+    match header.get(k / 4) {
+        Some(number) => files::byte_of(*number, k % 4),
+        None => ((37 * (k % 251) + 11) % 251) as u8,
     }
 }
 
@@ -33,29 +32,36 @@ fn file_byte(header: &[u32], k: usize) -> u8
 pub fn set_u32(bytes: &mut [u8], at: u32, v: u32)
     ensures { bytes.new ≡ with_u32 at v bytes.old }
 {
-    let i = at as usize;
-    set_byte(bytes, i, files::byte_of(v, 0));
-    set_byte(bytes, i + 1, files::byte_of(v, 1));
-    set_byte(bytes, i + 2, files::byte_of(v, 2));
-    set_byte(bytes, i + 3, files::byte_of(v, 3));
+    for k in 0..4 {
+        set_byte(bytes, at as usize + k, files::byte_of(v, k));
+    }
 }
 
 // Puts a byte at place i, if there is one.
 fn set_byte(bytes: &mut [u8], i: usize, v: u8)
     ensures { bytes.new ≡ set bytes.old i v }
 {
+    // not by `get_mut`: of the slice that it lends from, the library says nothing afterwards
     if i < bytes.len() {
         bytes[i] = v;
     }
+}
+
+// The checksum `sum` with a number more: that is added to TIMES times the sum, modulo PRIME.
+fn with_number<const TIMES: u64, const PRIME: u64>(sum: u64, number: u32) -> u64
+    requires { (0 < PRIME) × (PRIME * TIMES + 4294967296 < 18446744073709551616) }
+    ensures { result ≡ (sum % PRIME * TIMES + number) % PRIME }
+{
+    (sum % PRIME * TIMES + u64::from(number)) % PRIME
 }
 
 // The checksum of bytes.
 pub fn sum_of_bytes(bytes: &[u8]) -> u64
     ensures { result ≡ checksum 31 2147483647 bytes.now (length bytes.now) }
 {
-    let mut sum: u64 = 0;
-    for i in 0..bytes.len() {
-        sum = (sum % 2147483647 * 31 + bytes[i] as u64) % 2147483647;
+    let mut sum = 0;
+    for byte in bytes {
+        sum = with_number::<31, 2147483647>(sum, u32::from(*byte));
     }
     sum
 }
@@ -64,9 +70,9 @@ pub fn sum_of_bytes(bytes: &[u8]) -> u64
 pub fn sum_of_words(words: &[u32]) -> u64
     ensures { result ≡ checksum 1103515245 8589934583 words.now (length words.now) }
 {
-    let mut sum: u64 = 0;
-    for i in 0..words.len() {
-        sum = (sum % 8589934583 * 1103515245 + words[i] as u64) % 8589934583;
+    let mut sum = 0;
+    for word in words {
+        sum = with_number::<1103515245, 8589934583>(sum, *word);
     }
     sum
 }

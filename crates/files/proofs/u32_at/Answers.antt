@@ -1,6 +1,8 @@
--- `files::u32_at` meets its contract. Assumes nothing.
-use Rattle.files.proofs.Fields.{here}
+-- `files::u32_at` meets its contract: the four bytes, put together, are the definition's number. Assumes nothing.
+use mathlib.Core.Path.{◌∙◌}
+use native.Mathlib.Omega.{arith}
+use Rattle.files.proofs.Fields.{four-read}
 use Rattle.files.proofs.u32_at.Goals as goal
 
 pub returns : goal.returns
-returns c = let a = c.args in (here a.file.now a.at c.u32_from.ensures.0, c.u32_from.ensures.1)
+returns c = (c.from_le_bytes.ensures ∙ four-read c.args.file.now c.args.at _ c.bytes_at.ensures, omega arith)

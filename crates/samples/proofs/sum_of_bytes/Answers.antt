@@ -1,27 +1,22 @@
--- `samples::sum_of_bytes` meets its contract. The loop keeps the checksum of the first i. Assumes nothing.
+-- `samples::sum_of_bytes` meets its contract. The loop keeps the checksum of those so far. Assumes nothing.
 use mathlib.Core.Path.{◌≡◌, refl, ap, ◌∙◌}
+use Prim.Native.Nat.{ℕ, ◌+◌, ◌*◌, ◌%◌}
 use native.Mathlib.Omega.{arith}
 use lib.ListN.{length}
 use Rattle.samples.specs.Sums.{checksum}
 use Rattle.samples.proofs.Laws.{sum_more}
 use Rattle.samples.proofs.sum_of_bytes.Goals as goal
 
-pub loop-i-init : goal.loop-i-init
+pub loop-byte-init : goal.loop-byte-init
 unfolding checksum
-loop-i-init c = (omega arith, refl)
+loop-byte-init c = refl
 
-pub overflow_cast-sum : goal.overflow_cast-sum
-overflow_cast-sum c = omega (arith, c.shared_slice_known-1.given c.loop-i.i)
-
-pub overflow_add-sum : goal.overflow_add-sum
-overflow_add-sum c = omega (arith, c.shared_slice_known-1.given c.loop-i.i)
-
-pub loop-i-preserved : goal.loop-i-preserved
-loop-i-preserved c = (omega arith, sum_more 31 2147483647 _ _ c.loop-i.invariant.1)
+pub loop-byte-preserved : goal.loop-byte-preserved
+loop-byte-preserved c =
+    c.with_number-sum.ensures ∙ ap (λ (n : ℕ). (c.loop-byte.sum % 2147483647 * 31 + n) % 2147483647) c.from.ensures
+    ∙ sum_more 31 2147483647 _ _ c.loop-byte.invariant
 
 pub returns : goal.returns
 returns c =
-    let l = c.loop-i in
-    let a = c.args in
-    let all : l.i ≡ length a.bytes.now = omega arith in
-    l.invariant.1 ∙ ap (checksum 31 2147483647 a.bytes.now) all
+    let all : c.loop-byte.byte-index ≡ length c.args.bytes.now = omega arith in
+    c.loop-byte.invariant ∙ ap (checksum 31 2147483647 c.args.bytes.now) all

@@ -2,29 +2,23 @@
 use mathlib.Core.Path.{◌≡◌, refl, ap, ◌∙◌}
 use Prim.Native.Nat.{ℕ, ◌+◌, ◌/◌}
 use native.Mathlib.Omega.{arith}
-use Rattle.facts.proofs.Tab.{filled_none, filled_more, filled-length}
+use Rattle.facts.proofs.Tab.{filled_none, filled_more}
 use Rattle.samples.specs.Draw.{state_after, byte_of}
 use Rattle.samples.proofs.Drawing.{step-to-byte, drawn-end}
 use Rattle.samples.proofs.draw.draw_bytes.Goals as goal
 
 pub loop-i-init : goal.loop-i-init
 unfolding state_after
-loop-i-init c = (omega arith, refl, filled_none _ _)
-
-pub bounds-bytes-i : goal.bounds-bytes-i
-bounds-bytes-i c = omega (arith, filled-length c.loop-i.invariant.2 (omega arith))
+loop-i-init c = record { reached = refl; drawn = filled_none _ _ }
 
 pub loop-i-preserved : goal.loop-i-preserved
 loop-i-preserved c =
     let l = c.loop-i in
     let k = c.args in
     let at : c.step_before-reached.result ≡ state_after k.state (l.i / 2 + 1) =
-    c.step_before-reached.ensures ∙ step-to-byte k.state l.i l.invariant.1 in
+    c.step_before-reached.ensures ∙ step-to-byte k.state l.i l.invariant.reached in
     let drawn = c.byte_of.ensures ∙ ap (λ (s : ℕ). byte_of s l.i) at in
-    (omega arith, at ∙ ap (state_after k.state) (omega arith), filled_more l.invariant.2 drawn (omega arith))
-
-pub shape_of-bytes : goal.shape_of-bytes
-shape_of-bytes c = filled-length c.loop-i.invariant.2 (omega arith)
+    record { reached = at ∙ ap (state_after k.state) (omega arith); drawn = filled_more l.invariant.drawn drawn (omega arith) }
 
 pub returns : goal.returns
-returns c = drawn-end c.loop-i.invariant.2 (omega arith) c.loop-i.invariant.1 (omega arith)
+returns c = drawn-end c.loop-i.invariant.drawn (omega arith) c.loop-i.invariant.reached (omega arith)

@@ -1,0 +1,18 @@
+-- `files::bytes_at` meets its contract: what is read from the rest of the file is read from the file. Assumes nothing.
+use Rattle.std.proofs.Common.{◌≡◌, get_or, length-set, arith, ap, ◌∙◌, refl}
+use Rattle.std.specs.Option.{unwrap_or}
+use Rattle.files.proofs.Fields.{rest-read, next-read}
+use Rattle.files.proofs.bytes_at.Goals as goal
+
+pub loop-k-preserved : goal.loop-k-preserved
+loop-k-preserved g c =
+    let l = c.loop-k in
+    let read : c.unwrap_or.result ≡ get_or c.unwrap_or-rest.result.now l.k 0 =
+    c.unwrap_or.ensures ∙ ap (λ o. unwrap_or o 0) c.copied.ensures ∙ c.get-in-loop-k.ensures.lookup.4 (omega arith) 0 in
+    record { long = length-set l.byte-items l.k _ ∙ l.invariant.long; read = next-read _ _ (omega (arith, l.invariant.long)) read l.invariant.read }
+
+pub returns : goal.returns
+returns g c =
+    λ k h.
+    c.loop-k.invariant.read k (omega arith)
+    ∙ rest-read c.args.file.now c.args.at k _ _ c.get.ensures.lookup refl c.unwrap_or-rest.ensures
