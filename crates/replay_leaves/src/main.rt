@@ -29,7 +29,9 @@ fn main(rt: HostRuntime) -> io::Result<()> {
     print_chosen_words(&mut out)?;
     print_drawn_words(&mut out)?;
     print_grids(&mut out, "bits", grid::morton_index)?;
-    print_grids(&mut out, "table", by_table)?;
+    print_grids(&mut out, "table", |x, y, side| {
+        grid::morton_index_by_table(x, y, side)
+    })?;
     out.flush()
 }
 
@@ -170,11 +172,4 @@ fn print_addresses<F: Fn(usize, usize, usize) -> usize>(
         }
     }
     Ok(())
-}
-
-// The address through the table of spread bytes.
-fn by_table(x: usize, y: usize, side: usize) -> usize
-    requires { Placed side x y }
-{
-    grid::morton_index_by_table(&grid::spread_table(), x, y, side)
 }
