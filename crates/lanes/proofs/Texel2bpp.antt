@@ -65,9 +65,9 @@ module _ (n : Words) (x y : ℕ) where
 abbrev fills_at : Bool → ℕ → ℕ → Bool
 fills_at one y x = one && not (eqb ((x + y) % 2) 0)
 
-mask_is : (one : Bool) (y : ℕ) → y < 4 → cond one 1 0 * cond (eqb (y % 2) 0) odds evens ≡ mask_of (fills_at one y)
-mask_is true y h = eqb→eq _ _ (below (λ y. eqb (1 * cond (eqb (y % 2) 0) odds evens) (mask_of (fills_at true y))) 4 tt y h)
-mask_is false y h = eqb→eq _ _ (below (λ y. eqb (0 * cond (eqb (y % 2) 0) odds evens) (mask_of (fills_at false y))) 4 tt y h)
+mask_is : (one : Bool) (y : ℕ) → y < 4 → cond one (cond (eqb (y % 2) 0) odds evens) 0 ≡ mask_of (fills_at one y)
+mask_is true y h = eqb→eq _ _ (below (λ y. eqb (cond (eqb (y % 2) 0) odds evens) (mask_of (fills_at true y))) 4 tt y h)
+mask_is false y h = eqb→eq _ _ (below (λ y. eqb 0 (mask_of (fills_at false y))) 4 tt y h)
 
 module _ (of : ℕ → ℕ → List ℕ) where
   abbrev nine : Words
@@ -137,10 +137,6 @@ module _ (of : ℕ → ℕ → List ℕ) where
   abbrev high : Bool
   high = eqb (m / 1048576 % 2) 1
 
-  mode-bit : rule.mode ≡ cond one 1 0
-  unfolding fill_rule_of
-  mode-bit = bit-cond (get_or own 4 0 % 2) (omega arith) ∙ ap (λ (t : Bool). cond t 1 0) (sym (mode-is own))
-
   beside-is : rule.beside ≡ beside bit high
   unfolding fill_rule_of
   beside-is = ap₂ (λ (b h : ℕ). 1 + b - 2 * b * h) (bit-cond (m % 2) (omega arith)) (bit-cond (m / 1048576 % 2) (omega arith))
@@ -172,7 +168,7 @@ module _ (of : ℕ → ℕ → List ℕ) where
       )
       (filled_is rule (fills_at one y) (here y) (over y) (under y) (rw (beside-is, upright-is) (counts bit high))
       (λ i. near-low i (y + 4)) (λ i. near-low (8 + i) (y + 3)) (λ i. near-low (8 + i) (y + 5))
-      (ap (λ (n : ℕ). n * cond (eqb (y % 2) 0) odds evens) mode-bit ∙ mask_is one y h))
+      (mask_is one y h))
 
   -- in mode 1 a texel that is filled holds no weight of its own
   empty : (x y : ℕ) → x < 8 → y < 4 → one ≡ true → eqb ((x + y) % 2) 0 ≡ false → near 4 nine (x + 8) (y + 4) ≡ 0

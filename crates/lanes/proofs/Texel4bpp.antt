@@ -74,13 +74,3 @@ is_said of x y hx hy = (weight, keep)
     keep =
         ap (λ (c : ℕ). cond (mode own && eqb c 2) clear bytes) (code_at (modulation own) x y)
         ∙ ap (λ (t : Bool). cond t clear bytes) (sym (bit_is (punch4bpp (mode own) (modulation own) i) _ (punch-bit own i (omega arith))))
-
--- the codes, as the code reads them
-module _ (d : List ℕ) (z : ℕ) {b0 b1 b2 b3 b4 : ℕ} where
-  pub codes-are : b0 ≡ get_or d (8 * z) 0 → b1 ≡ get_or d (8 * z + 1) 0 → b2 ≡ get_or d (8 * z + 2) 0 → b3 ≡ get_or d (8 * z + 3) 0
-      → b4 ≡ get_or d (8 * z + 4) 0
-      → record { modulation = b0 + 256 * b1 + 65536 * b2 + 16777216 * b3; punches = eqb (b4 % 2) 1 } ≡ codes_of (word_at d z)
-  unfolding codes_of
-  codes-are e0 e1 e2 e3 e4 =
-      let first : 8 * z + 0 ≡ 8 * z = omega arith in
-      rw (mode-is (word_at d z), byte-of d z 0, byte-of d z 1, byte-of d z 2, byte-of d z 3, byte-of d z 4, first, e0, e1, e2, e3, e4)

@@ -3,8 +3,7 @@ ghost use Rattle.std.specs.Prelude.{false, ◌≡◌, ◌+◌, ◌*◌, ◌<◌,
 ghost use Rattle.lanes.specs.Block4bpp.{codes_of, codes_at, code_meaning};
 ghost use Rattle.std.proofs.Common.{refl};
 
-use crate::colors::byte;
-use crate::modulation::Modulation;
+use crate::modulation::{Modulation, mode_at};
 use crate::{Codes, Meaning, RowAddresses};
 
 const KEPT: u64 = 0x00ff00ff00ff00ff;
@@ -71,11 +70,8 @@ impl Modulation for Codes {
     fn read(d: &[u8], z: usize) -> Codes {
         let at = 8 * z;
         Codes {
-            modulation: byte(d, at)
-                + 256 * byte(d, at + 1)
-                + 65536 * byte(d, at + 2)
-                + 16777216 * byte(d, at + 3),
-            punches: byte(d, at + 4) % 2 == 1,
+            modulation: u32::from_le_bytes([d[at], d[at + 1], d[at + 2], d[at + 3]]) as u64,
+            punches: mode_at(d, z),
         }
     }
 

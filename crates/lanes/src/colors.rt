@@ -33,10 +33,10 @@ pub fn mix(a: u64, b: u64, w: u64, keep: u64) -> u32
 }
 
 // By a bit, the one or the other. Compiled it is no branch, which no one could foresee from such bits.
-pub fn pick(bit: u64, set: u64, clear: u64) -> u64
-    ensures { result ≡ cond (eqb bit 1) set clear }
+pub fn pick(bit: bool, set: u64, clear: u64) -> u64
+    ensures { result ≡ cond bit set clear }
 {
-    if bit == 1 { set } else { clear }
+    if bit { set } else { clear }
 }
 
 // Fields of four bits, five bits apart, each followed by its top bit.
@@ -68,13 +68,13 @@ fn in_lanes(fields: u64, alpha: u64, order: ChannelOrder) -> u64
 }
 
 // The lanes of colour A, and of B, where these are the bits c.
-fn lane_a(c: u64, order: ChannelOrder) -> u64
-    requires { c < 65536 }
+fn lane_a(c: u16, order: ChannelOrder) -> u64
     ensures { result ≡ color_lanes order (color_of c (blue_a c)) }
 {
+    let c = c as u64;
     let x = c % 32768 / 2 * 2 + c / 16 % 2;
     let y = widen(32 * (c / 16 % 16) + 1024 * (c / 256 % 16)) + (c / 2 % 8 * 4 + c / 4 % 4);
-    let opaque = c / 32768 % 2;
+    let opaque = c / 32768 % 2 == 1;
     in_lanes(
         pick(opaque, x, y),
         pick(opaque, 30, c / 4096 % 8 * 4),
@@ -82,12 +82,12 @@ fn lane_a(c: u64, order: ChannelOrder) -> u64
     )
 }
 
-fn lane_b(c: u64, order: ChannelOrder) -> u64
-    requires { c < 65536 }
+fn lane_b(c: u16, order: ChannelOrder) -> u64
     ensures { result ≡ color_lanes order (color_of c (blue_b c)) }
 {
+    let c = c as u64;
     let y = widen(c % 16 + 32 * (c / 16 % 16) + 1024 * (c / 256 % 16));
-    let opaque = c / 32768 % 2;
+    let opaque = c / 32768 % 2 == 1;
     in_lanes(
         pick(opaque, c % 32768, y),
         pick(opaque, 30, c / 4096 % 8 * 4),
@@ -95,19 +95,11 @@ fn lane_b(c: u64, order: ChannelOrder) -> u64
     )
 }
 
-pub fn byte(d: &[u8], at: usize) -> u64
-    requires { at < length d.now }
-    ensures { (result ≡ get_or d.now at 0) × (result < 256) }
-{
-    d[at] as u64
-}
-
-// Two bytes, little-endian.
-fn half(d: &[u8], at: usize) -> u64
+fn half(d: &[u8], at: usize) -> u16
     requires { at + 2 ≤ length d.now }
-    ensures { (result ≡ get_or d.now at 0 + 256 * get_or d.now (at + 1) 0) × (result < 65536) }
+    ensures { result ≡ get_or d.now at 0 + 256 * get_or d.now (at + 1) 0 }
 {
-    byte(d, at) + 256 * byte(d, at + 1)
+    u16::from_le_bytes([d[at], d[at + 1]])
 }
 
 // Colour A, and B, of word z.

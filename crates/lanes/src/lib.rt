@@ -68,13 +68,13 @@ pub struct Weights {
     pub rows: [u64; 4],
 }
 
-// How a block is filled: the rows of weights over its upper and lower edge, its mode, and how often the weights beside a texel count,
-// and those above and below it.
+// How a block is filled: the rows of weights over its upper and lower edge, whether its mode is 1, and how often the weights beside a texel
+// count, and those above and below it.
 #[derive(Clone, Copy)]
 pub struct FillRule {
     pub above: u64,
     pub below: u64,
-    pub mode: u64,
+    pub mode: bool,
     pub beside: u64,
     pub upright: u64,
 }

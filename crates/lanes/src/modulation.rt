@@ -1,6 +1,7 @@
 // What differs with the depth: how wide a block is, and what its word's modulation says of its texels.
 ghost use Rattle.std.specs.Prelude.{Bool, List, ℕ, ◌≡◌, ◌+◌, ◌*◌, ◌<◌, ◌≤◌, length};
 ghost use Rattle.grid.specs.Grid.{half};
+ghost use Rattle.word.specs.Word.{mode};
 ghost use Rattle.lanes.specs.declared.Meaning.{Meaning};
 ghost use Rattle.lanes.specs.Block.{Said, Middle};
 ghost use Rattle.lanes.specs.BlockRow.{InColumn};
@@ -49,4 +50,12 @@ pub trait Modulation: Copy {
         ensures { (result ≡ says row i) × (result.weight ≤ 15) × Mask result.keep };
 
     ghost half_is: { HALF ≡ half two };
+}
+
+// Whether the mode of word z is 1.
+pub fn mode_at(d: &[u8], z: usize) -> bool
+    requires { 8 * z + 8 ≤ length d.now }
+    ensures { result ≡ mode (word_at d.now z) }
+{
+    d[8 * z + 4] % 2 == 1
 }

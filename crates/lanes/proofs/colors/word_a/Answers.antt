@@ -5,4 +5,4 @@ use Rattle.lanes.proofs.colors.word_a.Goals as goal
 pub returns : goal.returns
 returns c =
     let a = c.args in
-    a-is a.order a.d.now a.z c.half.ensures.0 c.lane_a.ensures
+    a-is a.order a.d.now a.z c.half.ensures c.lane_a.ensures

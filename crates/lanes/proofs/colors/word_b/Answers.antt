@@ -5,4 +5,4 @@ use Rattle.lanes.proofs.colors.word_b.Goals as goal
 pub returns : goal.returns
 returns c =
     let a = c.args in
-    b-is a.order a.d.now a.z c.half.ensures.0 c.lane_b.ensures
+    b-is a.order a.d.now a.z c.half.ensures c.lane_b.ensures
