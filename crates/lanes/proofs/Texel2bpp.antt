@@ -1,5 +1,5 @@
 -- What a word's weights, filled, say at 2bpp is what the definition says. Assumes nothing.
-use mathlib.Core.Path.{◌≡◌, refl, sym, ap, ap₂, ◌∙◌}
+use mathlib.Core.Path.{◌≡◌, refl, ap, ap₂, ◌∙◌}
 use mathlib.Core.Bool.{Bool, true, false, cond, ◌&&◌, not}
 use mathlib.Core.List.{List}
 use Prim.Native.Nat.{ℕ, zero, suc, ◌+◌, ◌*◌, ◌/◌, ◌%◌, ◌-◌, ◌^◌, ◌≤◌, ◌<◌}
@@ -22,7 +22,6 @@ use Rattle.lanes.specs.Block.{Said}
 use Rattle.lanes.specs.Block2bpp.{in_bytes, weight_row, weight_rows, weight_meaning, fill_rule_of, odds, evens, filled_at, filled_rows}
 use Rattle.lanes.specs.Lanes.{bytes, clear}
 use Rattle.lanes.proofs.ByteLanes.{bytes_same, mask_of, fill_at, filled_is, byte_at}
-use Rattle.lanes.proofs.Texel4bpp.{mode-is}
 
 -- a bit as a number
 bit-cond : (n : ℕ) → n < 2 → n ≡ cond (eqb n 1) 1 0

@@ -5,7 +5,6 @@ use mathlib.Core.List.{List}
 use Prim.Native.Nat.{ℕ, ◌+◌, ◌*◌, ◌/◌, ◌%◌, ◌^◌}
 use native.Mathlib.Omega.{arith}
 use lib.Dec.{eqb}
-use lib.ListN.{get_or}
 use lib.Pow.{shr-shr}
 use borrow.Author.Tests.{eq-eqb, ne_eqb}
 use Rattle.texel.specs.Texel.{Words, near, filled, rule_at, punched}
@@ -14,23 +13,15 @@ use Rattle.word.proofs.Bounds.{weights-4, punch-bit, never-filled}
 use Rattle.word.specs.declared.Fill.{Fill}
 use Rattle.word.specs.declared.Fill.TheVariants.{Nothing}
 use Rattle.word.specs.Word.{modulation, mode, code, standard_weight, punch_through_weight, weight4bpp, punch4bpp}
-use Rattle.lanes.specs.Column.{word_at}
 use Rattle.lanes.specs.Block.{Said}
 use Rattle.lanes.specs.Block4bpp.{codes_of, codes_at, code_meaning}
 use Rattle.lanes.specs.Lanes.{bytes, clear}
-use Rattle.lanes.proofs.Reading.{byte-of}
 
 -- the code of texel (x, y), by its row
 code_at : (m x y : ℕ) → code (m / 2 ^ (8 * y)) x ≡ code m (4 * y + x)
 code_at m x y =
     let e : 8 * y + 2 * x ≡ 2 * (4 * y + x) = omega arith in
     ap (λ (n : ℕ). n % 4) (shr-shr m (8 * y) (2 * x) ∙ ap (λ (n : ℕ). m / 2 ^ n) e)
-
--- the mode is the low bit of byte 4
-pub mode-is : (w : List ℕ) → mode w ≡ eqb (get_or w 4 0 % 2) 1
-mode-is w =
-    let e : (get_or w 4 0 + 256 * get_or w 5 0) / 2 ^ 0 % 2 ≡ get_or w 4 0 % 2 = omega arith in
-    ap (λ (n : ℕ). eqb n 1) e
 
 -- a bit that is 1 where t holds
 bit_is : (t : Bool) (n : ℕ) → n ≡ cond t 1 0 → eqb n 1 ≡ t

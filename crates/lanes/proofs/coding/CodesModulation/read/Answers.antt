@@ -1,5 +1,5 @@
 -- `read` of `lanes::Codes` meets its contract: four bytes are the modulation. Assumes nothing.
-use Rattle.std.proofs.Common.{◌≡◌, refl, arith}
+use Rattle.std.proofs.Common.{◌≡◌, arith}
 use Rattle.word.specs.Word.{modulation}
 use Rattle.lanes.specs.Block4bpp.{codes_of}
 use Rattle.lanes.specs.Column.{word_at}
