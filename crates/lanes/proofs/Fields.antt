@@ -1,10 +1,7 @@
 -- Three channels as fields of five bits in one number, and how one product lays them in lanes. Assumes nothing.
-use mathlib.Core.Path.{◌≡◌, refl, ap, ap₂, ◌∙◌}
-use mathlib.Core.Bool.{Bool, true, false, cond}
-use Prim.Native.Nat.{ℕ, ◌+◌, ◌*◌, ◌/◌, ◌%◌, ◌<◌}
+use Rattle.std.proofs.Common.{◌≡◌, refl, ap, ap₂, ◌∙◌, Bool, true, false, cond, ℕ, ◌+◌, ◌*◌, ◌/◌, ◌%◌, ◌<◌, arith, bit_and}
 use native.Mathlib.Nat.{div-div-eq-div-mul}
-use native.Mathlib.Omega.{arith}
-use lib.Bits.{bit_and, and_block, and_mask}
+use lib.Bits.{and_block, and_mask}
 use Rattle.pixel.specs.declared.ChannelOrder.{ChannelOrder}
 use Rattle.pixel.specs.declared.ChannelOrder.TheVariants.{BlueFirst, RedFirst}
 use Rattle.word.specs.Word.{opaque, color_of}

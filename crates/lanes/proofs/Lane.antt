@@ -1,11 +1,8 @@
 -- Laws of four numbers as the 16-bit lanes of one: masks and shifts act on each lane apart. Assumes nothing.
-use mathlib.Core.Path.{◌≡◌, refl, ap, ap₂, ◌∙◌}
-use mathlib.Core.Bool.{Bool, true, false, cond}
-use Prim.Native.Nat.{ℕ, ◌+◌, ◌*◌, ◌/◌, ◌%◌, ◌-◌, ◌≤◌, ◌<◌}
-use native.Mathlib.Nat.{add-mul, mul-add, mul_assoc, mul-le-mul_left, mul-le-mul_right, add-mul-div_right, add-mul-mod_self_right, div-add-mod'}
-use native.Mathlib.Nat.{mod-lt}
-use native.Mathlib.Omega.{arith}
-use lib.Bits.{bit_and, and_block, and_high, and_le_r, and_mask, and_mod, and_zero_r}
+use Rattle.std.proofs.Common.{◌≡◌, refl, ap, ap₂, ◌∙◌, Bool, true, false, cond, ℕ, ◌+◌, ◌*◌, ◌/◌, ◌%◌, ◌-◌, ◌≤◌, ◌<◌, add-mul, mul-add, mul_assoc}
+use Rattle.std.proofs.Common.{mul-le-mul_left, mul-le-mul_right, div-add-mod', mod-lt, arith, bit_and}
+use native.Mathlib.Nat.{add-mul-div_right, add-mul-mod_self_right}
+use lib.Bits.{and_block, and_high, and_le_r, and_mask, and_mod, and_zero_r}
 use Rattle.facts.proofs.Numbers.{cond-le}
 use Rattle.grid.specs.Grid.{half}
 use Rattle.pixel.specs.Pixel.{packed, EightBits}

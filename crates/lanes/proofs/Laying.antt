@@ -1,10 +1,5 @@
 -- How the texels of a row are laid, at either depth: word by word, as far as its sheet has columns. Assumes nothing.
-use mathlib.Core.Path.{◌≡◌}
-use mathlib.Core.Bool.{Bool, true, false}
-use mathlib.Core.List.{List}
-use Prim.Native.Nat.{ℕ, ◌+◌, ◌*◌, ◌≤◌, ◌<◌, min}
-use native.Mathlib.Omega.{arith}
-use lib.ListN.{length, set}
+use Rattle.std.proofs.Common.{◌≡◌, Bool, true, false, List, ℕ, ◌+◌, ◌*◌, ◌≤◌, ◌<◌, min, arith, length, set}
 use Rattle.grid.specs.Grid.{half}
 use Rattle.paint.proofs.Laid.{Row, row-none, row_word}
 use Rattle.lanes.specs.declared.Sums.{Sums}

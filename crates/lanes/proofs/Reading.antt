@@ -1,11 +1,5 @@
 -- Colours as lanes, as the code reads them. Assumes nothing.
-use mathlib.Core.Path.{◌≡◌, refl, sym, ap, ap₂, ◌∙◌}
-use mathlib.Core.Bool.{true}
-use mathlib.Core.List.{List, [], ◌∷◌}
-use Prim.Native.Nat.{ℕ, ◌+◌, ◌*◌, ◌<◌, ◌≤◌}
-use native.Mathlib.Omega.{arith}
-use lib.ListN.{get_or}
-use lib.Seq.{get_or-drop}
+use Rattle.std.proofs.Common.{◌≡◌, refl, sym, ap, ap₂, ◌∙◌, true, List, [], ◌∷◌, ℕ, ◌+◌, ◌*◌, ◌<◌, ◌≤◌, arith, get_or, get_or-drop}
 use Rattle.facts.proofs.Tab.{get_or-tab}
 use Rattle.facts.specs.Tab.{tab}
 use Rattle.pixel.specs.declared.ChannelOrder.{ChannelOrder}

@@ -3,11 +3,11 @@ ghost use Rattle.std.specs.Prelude.{false, ◌≡◌, ◌+◌, ◌*◌, ◌<◌,
 ghost use Rattle.lanes.specs.Block4bpp.{codes_of, codes_at, code_meaning};
 ghost use Rattle.std.proofs.Common.{refl};
 
+use crate::colors::BYTES;
 use crate::modulation::{Modulation, mode_at};
 use crate::{Codes, Meaning, RowAddresses};
 
-const KEPT: u64 = 0x00ff00ff00ff00ff;
-
+// Of a texel that is punched through alpha is cleared.
 const CLEAR: u64 = 0x000000ff00ff00ff;
 
 // What codes 0 to 3 mean in mode 0, and in mode 1.
@@ -15,29 +15,29 @@ static MEANINGS: [[Meaning; 4]; 2] = [
     [
         Meaning {
             weight: 0,
-            keep: KEPT,
+            keep: BYTES,
         },
         Meaning {
             weight: 3,
-            keep: KEPT,
+            keep: BYTES,
         },
         Meaning {
             weight: 5,
-            keep: KEPT,
+            keep: BYTES,
         },
         Meaning {
             weight: 8,
-            keep: KEPT,
+            keep: BYTES,
         },
     ],
     [
         Meaning {
             weight: 0,
-            keep: KEPT,
+            keep: BYTES,
         },
         Meaning {
             weight: 4,
-            keep: KEPT,
+            keep: BYTES,
         },
         Meaning {
             weight: 4,
@@ -45,7 +45,7 @@ static MEANINGS: [[Meaning; 4]; 2] = [
         },
         Meaning {
             weight: 8,
-            keep: KEPT,
+            keep: BYTES,
         },
     ],
 ];
@@ -75,6 +75,7 @@ impl Modulation for Codes {
         }
     }
 
+    // At 4bpp nothing is filled.
     fn fill(
         _left: Codes,
         own: Codes,

@@ -10,7 +10,8 @@ use pixel::ChannelOrder;
 
 const ONES: u64 = 0x0001000100010001;
 
-const BYTES: u64 = 0x00ff00ff00ff00ff;
+// The low byte of each lane.
+pub const BYTES: u64 = 0x00ff00ff00ff00ff;
 
 const TOP: u64 = 0xffff000000000000;
 
@@ -67,7 +68,7 @@ fn in_lanes(fields: u64, alpha: u64, order: ChannelOrder) -> u64
     apart + 4294967296 * (fields / 32 % 32) + 281474976710656 * alpha
 }
 
-// The lanes of colour A, and of B, where these are the bits c.
+// The lanes of colour A, and of B, where these are the bits c. No twins: what they read of blue differs, and is most of either.
 fn lane_a(c: u16, order: ChannelOrder) -> u64
     ensures { result ≡ color_lanes order (color_of c (blue_a c)) }
 {

@@ -2,11 +2,10 @@
 ghost use Rattle.std.specs.Prelude.{true, false, cond, ◌≡◌, ◌+◌, ◌*◌, ◌/◌, ◌<◌, ◌≤◌, eqb, length, get_or};
 ghost use Rattle.lanes.specs.Column.{word_at};
 ghost use Rattle.lanes.specs.Block2bpp.{bit_row, code_row, byte_row, weight_row, weight_rows, fill_rule_of, filled_row, filled_rows, LowRow, LowRows};
-ghost use Rattle.lanes.specs.Block2bpp.{FewTimes, LowRule};
-ghost use Rattle.lanes.specs.Block2bpp.{weight_meaning};
+ghost use Rattle.lanes.specs.Block2bpp.{weight_meaning, FewTimes, LowRule};
 ghost use Rattle.std.proofs.Common.{refl};
 
-use crate::colors::pick;
+use crate::colors::{BYTES, pick};
 use crate::modulation::{Modulation, mode_at};
 use crate::{FillRule, Meaning, RowAddresses, Weights};
 
@@ -182,7 +181,7 @@ impl Modulation for Weights {
     fn meaning(row: u64, i: usize) -> Meaning {
         Meaning {
             weight: (row >> (8 * i)) % 16,
-            keep: 0x00ff00ff00ff00ff,
+            keep: BYTES,
         }
     }
 

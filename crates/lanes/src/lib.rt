@@ -24,7 +24,7 @@ pub struct Column {
 }
 
 // One row of three columns, the one before a block, its own and the next one, in one colour.
-#[derive(Clone, Copy, Debug, PartialEq, Eq)]
+#[derive(Clone, Copy)]
 pub struct Sums {
     pub left: u64,
     pub own: u64,
@@ -41,7 +41,7 @@ pub struct RowAddresses {
 }
 
 // What a word's modulation says of a texel: the weight of colour B, and what is kept of the blend.
-#[derive(Clone, Copy, Debug, PartialEq, Eq)]
+#[derive(Clone, Copy)]
 pub struct Meaning {
     pub weight: u64,
     pub keep: u64,
@@ -56,7 +56,7 @@ pub struct Block<M> {
 }
 
 // A word's codes at 4bpp, and whether its mode is 1.
-#[derive(Clone, Copy, Debug, PartialEq, Eq)]
+#[derive(Clone, Copy)]
 pub struct Codes {
     pub modulation: u64,
     pub punches: bool,

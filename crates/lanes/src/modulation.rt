@@ -10,8 +10,9 @@ ghost use Rattle.lanes.specs.Lanes.{Mask};
 
 use crate::{Meaning, RowAddresses};
 
+// Codes at 4bpp and weights at 2bpp. Either is proved to say of each texel what the definition says (`fill`), and one walk lays both.
 pub trait Modulation: Copy {
-    // A row of the four.
+    // What is read of one row of the four.
     type Row: Copy;
 
     // Half a block's width.
@@ -24,6 +25,7 @@ pub trait Modulation: Copy {
     // What is read of the bytes from a word on.
     ghost stored: { List ℕ → Self };
 
+    // What filling may count on.
     ghost Good: { Self → Type 0 };
 
     ghost row_of: { Self → ℕ → Self.Row };

@@ -1,8 +1,5 @@
 -- `lanes::colors::lane_b` meets its contract, both where the colour is opaque and where it is not. Assumes nothing.
-use mathlib.Core.Path.{◌≡◌, ap, ap₂, ◌∙◌}
-use mathlib.Core.Bool.{cond}
-use Prim.Native.Nat.{ℕ, ◌+◌, ◌*◌, ◌/◌, ◌%◌}
-use native.Mathlib.Omega.{arith}
+use Rattle.std.proofs.Common.{◌≡◌, ap, ap₂, ◌∙◌, cond, ℕ, ◌+◌, ◌*◌, ◌/◌, ◌%◌, arith}
 use Rattle.word.specs.Word.{opaque, color_of}
 use Rattle.lanes.specs.Lanes.{color_lanes}
 use Rattle.lanes.proofs.Fields.{color-lanes, opaque-b, clear-b}

@@ -1,7 +1,6 @@
 -- `lanes::filling::bits_row` meets its contract: it computes the definition. Assumes nothing.
-use mathlib.Core.Path.{refl}
-use Prim.Native.Nat.{◌+◌, ◌*◌, ◌/◌}
-use lib.Bits.{bit_and, and_le_r}
+use Rattle.std.proofs.Common.{refl, ◌+◌, ◌*◌, ◌/◌, bit_and}
+use lib.Bits.{and_le_r}
 use Rattle.lanes.specs.Block2bpp.{bit_row}
 use Rattle.lanes.proofs.filling.bits_row.Goals as goal
 

@@ -1,8 +1,6 @@
 -- `lanes::filling::codes_row` meets its contract: it computes the definition. Assumes nothing.
-use mathlib.Core.Path.{refl}
-use native.Mathlib.Omega.{arith}
-use Prim.Native.Nat.{ℕ, ◌*◌, ◌≤◌}
-use lib.Bits.{bit_and, and_le_r}
+use Rattle.std.proofs.Common.{refl, arith, ℕ, ◌*◌, ◌≤◌, bit_and}
+use lib.Bits.{and_le_r}
 use Rattle.lanes.specs.Block2bpp.{code_row}
 use Rattle.lanes.proofs.filling.codes_row.Goals as goal
 

@@ -1,5 +1,5 @@
 -- `lanes::filling::fill_row` meets its contract: it computes the definition. Assumes nothing.
-use mathlib.Core.Path.{refl}
+use Rattle.std.proofs.Common.{refl}
 use Rattle.lanes.specs.Block2bpp.{filled_row}
 use Rattle.lanes.proofs.filling.fill_row.Goals as goal
 

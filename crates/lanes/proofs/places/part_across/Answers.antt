@@ -1,5 +1,5 @@
 -- `lanes::places::part_across` meets its contract: `Placing` has that this form is the address, which bounds every part. Assumes nothing.
-use native.Mathlib.Omega.{arith}
+use Rattle.std.proofs.Common.{arith}
 use Rattle.lanes.proofs.Placing.{across-is, across-small}
 use Rattle.lanes.proofs.places.part_across.Goals as goal
 
