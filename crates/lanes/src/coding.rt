@@ -3,8 +3,7 @@ ghost use Rattle.std.specs.Prelude.{false, ◌≡◌, ◌+◌, ◌*◌, ◌<◌,
 ghost use Rattle.lanes.specs.Block4bpp.{codes_of, codes_at, code_meaning};
 ghost use Rattle.std.proofs.Common.{refl};
 
-use crate::colors::BYTES;
-use crate::modulation::{Modulation, mode_at};
+use crate::modulation::{KEPT, Modulation, mode_at};
 use crate::{Codes, Meaning, RowAddresses};
 
 // Of a texel that is punched through alpha is cleared.
@@ -15,29 +14,29 @@ static MEANINGS: [[Meaning; 4]; 2] = [
     [
         Meaning {
             weight: 0,
-            keep: BYTES,
+            keep: KEPT,
         },
         Meaning {
             weight: 3,
-            keep: BYTES,
+            keep: KEPT,
         },
         Meaning {
             weight: 5,
-            keep: BYTES,
+            keep: KEPT,
         },
         Meaning {
             weight: 8,
-            keep: BYTES,
+            keep: KEPT,
         },
     ],
     [
         Meaning {
             weight: 0,
-            keep: BYTES,
+            keep: KEPT,
         },
         Meaning {
             weight: 4,
-            keep: BYTES,
+            keep: KEPT,
         },
         Meaning {
             weight: 4,
@@ -45,7 +44,7 @@ static MEANINGS: [[Meaning; 4]; 2] = [
         },
         Meaning {
             weight: 8,
-            keep: BYTES,
+            keep: KEPT,
         },
     ],
 ];
@@ -90,7 +89,7 @@ impl Modulation for Codes {
     fn row(self, j: usize) -> Codes {
         Codes {
             modulation: self.modulation >> (8 * j),
-            punches: self.punches,
+            ..self
         }
     }
 

@@ -5,13 +5,12 @@ ghost use Rattle.lanes.specs.Lanes.{bytes, channel_lanes, color_lanes, widened, 
 ghost use Rattle.facts.specs.Tab.{tab};
 ghost use Rattle.lanes.specs.Column.{lanes_a, lanes_b, column_of, across, SmallColumn, SmallSums};
 
-use crate::{Column, Sums};
+use crate::{ColorLanes, Column, Sums};
 use pixel::ChannelOrder;
 
 const ONES: u64 = 0x0001000100010001;
 
-// The low byte of each lane.
-pub const BYTES: u64 = 0x00ff00ff00ff00ff;
+const BYTES: u64 = 0x00ff00ff00ff00ff;
 
 const TOP: u64 = 0xffff000000000000;
 
@@ -103,19 +102,16 @@ fn half(d: &[u8], at: usize) -> u16
     u16::from_le_bytes([d[at], d[at + 1]])
 }
 
-// Colour A, and B, of word z.
-fn word_a(d: &[u8], z: usize, order: ChannelOrder) -> u64
+// Both colours of word z.
+fn colors_at(d: &[u8], z: usize, order: ChannelOrder) -> ColorLanes
     requires { 8 * z + 8 ≤ length d.now }
-    ensures { (result ≡ lanes_a order d.now z) × (result ≤ 8725724278030336) }
+    ensures is { (result.a ≡ lanes_a order d.now z) × (result.b ≡ lanes_b order d.now z) }
+    ensures small { (result.a ≤ 8725724278030336) × (result.b ≤ 8725724278030336) }
 {
-    lane_a(half(d, 8 * z + 4), order)
-}
-
-fn word_b(d: &[u8], z: usize, order: ChannelOrder) -> u64
-    requires { 8 * z + 8 ≤ length d.now }
-    ensures { (result ≡ lanes_b order d.now z) × (result ≤ 8725724278030336) }
-{
-    lane_b(half(d, 8 * z + 6), order)
+    ColorLanes {
+        a: lane_a(half(d, 8 * z + 4), order),
+        b: lane_b(half(d, 8 * z + 6), order),
+    }
 }
 
 // Rows 0 to 3 of a block, in one colour, of the words above it, its own and below it.
@@ -136,17 +132,12 @@ pub fn summed(d: &[u8], above: usize, own: usize, below: usize, order: ChannelOr
     requires { (8 * above + 8 ≤ length d.now) × (8 * own + 8 ≤ length d.now) × (8 * below + 8 ≤ length d.now) }
     ensures { (result ≡ column_of order d.now above own below) × SmallColumn result }
 {
+    let above = colors_at(d, above, order);
+    let own = colors_at(d, own, order);
+    let below = colors_at(d, below, order);
     Column {
-        a: downwards(
-            word_a(d, above, order),
-            word_a(d, own, order),
-            word_a(d, below, order),
-        ),
-        b: downwards(
-            word_b(d, above, order),
-            word_b(d, own, order),
-            word_b(d, below, order),
-        ),
+        a: downwards(above.a, own.a, below.a),
+        b: downwards(above.b, own.b, below.b),
     }
 }
 

@@ -5,8 +5,8 @@ ghost use Rattle.lanes.specs.Block2bpp.{bit_row, code_row, byte_row, weight_row,
 ghost use Rattle.lanes.specs.Block2bpp.{weight_meaning, FewTimes, LowRule};
 ghost use Rattle.std.proofs.Common.{refl};
 
-use crate::colors::{BYTES, pick};
-use crate::modulation::{Modulation, mode_at};
+use crate::colors::pick;
+use crate::modulation::{KEPT, Modulation, mode_at};
 use crate::{FillRule, Meaning, RowAddresses, Weights};
 
 // A byte's bits as weights of 0 and 8.
@@ -181,7 +181,7 @@ impl Modulation for Weights {
     fn meaning(row: u64, i: usize) -> Meaning {
         Meaning {
             weight: (row >> (8 * i)) % 16,
-            keep: BYTES,
+            keep: KEPT,
         }
     }
 

@@ -16,6 +16,13 @@ use grid::Grid;
 use paint::Sheet;
 use pixel::ChannelOrder;
 
+// The two colours of a word, as lanes.
+#[derive(Clone, Copy)]
+pub struct ColorLanes {
+    pub a: u64,
+    pub b: u64,
+}
+
 // Three words of a column, the one above a block, its own and the one below, summed for rows 0 to 3 of the block: colour A and colour B.
 #[derive(Clone, Copy)]
 pub struct Column {

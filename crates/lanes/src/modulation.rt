@@ -10,6 +10,9 @@ ghost use Rattle.lanes.specs.Lanes.{Mask};
 
 use crate::{Meaning, RowAddresses};
 
+// All of a texel.
+pub const KEPT: u64 = 0x00ff00ff00ff00ff;
+
 // Codes at 4bpp and weights at 2bpp. Either is proved to say of each texel what the definition says (`fill`), and one walk lays both.
 pub trait Modulation: Copy {
     // What is read of one row of the four.

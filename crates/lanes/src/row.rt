@@ -89,7 +89,7 @@ fn block_at<M: Modulation>(
 {
     let part = part_across(x, row.smaller);
     Block {
-        part: part,
+        part,
         column: column_at(data, row, part, order),
         said: M::read(data, part + row.own),
     }
