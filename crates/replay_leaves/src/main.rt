@@ -2,9 +2,10 @@
 // print, in the file `stdout`, was written by the Rust. It is one module, since what a function prints is nothing that it could promise.
 #![tactic(auto)]
 
-ghost use Rattle.std.specs.Prelude.{◌≡◌, min};
+ghost use Rattle.std.specs.Prelude.{ℕ};
 ghost use Rattle.grid.specs.Grid.{Placed};
 
+use std::fmt::Display;
 use std::io;
 use std::io::Write;
 
@@ -14,13 +15,15 @@ fn main(rt: HostRuntime) -> io::Result<()> {
     let mut out = io::writer(&rt);
     print_chosen_words(&mut out)?;
     print_drawn_words(&mut out)?;
-    print_grids(&mut out, false)?;
-    print_grids(&mut out, true)?;
+    print_grids(&mut out, "bits", grid::morton_index)?;
+    print_grids(&mut out, "table", |x, y, side| {
+        grid::morton_index_by_table(x, y, side)
+    })?;
     out.flush()
 }
 
 // A number of a line, with the space before it.
-fn print_number(out: &mut impl Write, n: u64) -> io::Result<()> {
+fn print_number(out: &mut impl Write, n: impl Display + Drop) -> io::Result<()> {
     write!(out, " {n}")
 }
 
@@ -38,7 +41,7 @@ fn print_chosen_words(out: &mut impl Write) -> io::Result<()> {
 }
 
 // Chosen word i: its kind, and its number within the kind.
-fn print_chosen_word(out: &mut impl Write, i: u64) -> io::Result<()> {
+fn print_chosen_word(out: &mut impl Write, i: u32) -> io::Result<()> {
     if i < 2 {
         print_plain_word(out, i)
     } else if i < 34 {
@@ -51,7 +54,7 @@ fn print_chosen_word(out: &mut impl Write, i: u64) -> io::Result<()> {
 }
 
 // All zeros, or all ones.
-fn print_plain_word(out: &mut impl Write, i: u64) -> io::Result<()> {
+fn print_plain_word(out: &mut impl Write, i: u32) -> io::Result<()> {
     if i == 0 {
         print_word(out, 0, 0, 0)
     } else {
@@ -60,31 +63,36 @@ fn print_plain_word(out: &mut impl Write, i: u64) -> io::Result<()> {
 }
 
 // Each mode with each choice of bits 0 and 20 of the modulation, where every place has the same code otherwise.
-fn print_mode_word(out: &mut impl Write, i: u64) -> io::Result<()> {
+fn print_mode_word(out: &mut impl Write, i: u32) -> io::Result<()> {
     let codes = 0x55555555 * (i / 8 % 4);
     let bits = i % 2 + 0x100000 * (i / 2 % 2);
-    print_word(out, (codes & 0xffeffffe) | bits, 0x8000 + i / 4 % 2, 0x8000)
+    print_word(
+        out,
+        (codes & 0xffeffffe) | bits,
+        (0x8000 + i / 4 % 2) as u16,
+        0x8000,
+    )
 }
 
 // Codes 1, 2 and 3 at one place of the modulation, in each mode.
-fn print_code_word(out: &mut impl Write, i: u64) -> io::Result<()> {
+fn print_code_word(out: &mut impl Write, i: u32) -> io::Result<()> {
     let place = 2 * (i / 2 % 16);
     let code = 1 + i / 32 % 3;
-    print_word(out, code << place, i % 2, 0)
+    print_word(out, code << place, (i % 2) as u16, 0)
 }
 
 // Each edge of each nibble of a colour, over four grounds. B has the opposite ground.
-fn print_colour_word(out: &mut impl Write, i: u64) -> io::Result<()> {
+fn print_colour_word(out: &mut impl Write, i: u32) -> io::Result<()> {
     let ground = i / 16 % 4;
     print_word(out, 0, colour_of(ground, i), colour_of(3 - ground, i))
 }
 
 // The ground 0000, 7fff, 8000 or ffff (hex) with 0, 7, 8 or 15 in one nibble.
-fn colour_of(ground: u64, i: u64) -> u64 {
+fn colour_of(ground: u32, i: u32) -> u16 {
     let whole = 0x7fff * (ground % 2) + 0x8000 * (ground / 2 % 2);
     let edge = 7 * (i % 2) + 8 * (i / 2 % 2);
     let place = 4 * (i / 4 % 4);
-    (whole & !(15 << place)) | (edge << place)
+    (((whole & !(15 << place)) | (edge << place)) & 0xffff) as u16
 }
 
 // Words drawn by the generator.
@@ -102,28 +110,27 @@ fn print_drawn_word(out: &mut impl Write, state: u64) -> io::Result<u64> {
     let second = step(first);
     let third = step(second);
     let fourth = step(third);
-    let modulation = first / 32768 % 65536 + 65536 * (second / 32768 % 65536);
-    print_word(out, modulation, third / 32768, fourth / 32768)?;
+    let modulation = u32::from(drawn(first)) + 65536 * u32::from(drawn(second));
+    print_word(out, modulation, drawn(third), drawn(fourth))?;
     Ok(fourth)
 }
 
-// A step of the generator, whose state has 31 bits. The upper sixteen are used.
+// A step of the generator, whose state has 31 bits.
 fn step(state: u64) -> u64 {
     (state % 2147483648 * 1103515245 + 12345) % 2147483648
 }
 
+// The upper sixteen of them.
+fn drawn(state: u64) -> u16 {
+    (state / 32768 % 65536) as u16
+}
+
 // What is read of the word with this modulation and these colours.
-fn print_word(out: &mut impl Write, modulation: u64, a: u64, b: u64) -> io::Result<()> {
-    let data = [
-        (modulation % 256) as u8,
-        (modulation / 256 % 256) as u8,
-        (modulation / 65536 % 256) as u8,
-        (modulation / 16777216 % 256) as u8,
-        (a % 256) as u8,
-        (a / 256 % 256) as u8,
-        (b % 256) as u8,
-        (b / 256 % 256) as u8,
-    ];
+fn print_word(out: &mut impl Write, modulation: u32, a: u16, b: u16) -> io::Result<()> {
+    let mut data = [0; 8];
+    data[..4].copy_from_slice(&modulation.to_le_bytes());
+    data[4..6].copy_from_slice(&a.to_le_bytes());
+    data[6..].copy_from_slice(&b.to_le_bytes());
     out.write_all(b"word")?;
     print_bytes(out, &data)?;
     end_line(out)?;
@@ -133,35 +140,30 @@ fn print_word(out: &mut impl Write, modulation: u64, a: u64, b: u64) -> io::Resu
 
 // The colours, then the sixteen weights and the punch-through flag.
 fn print_4bpp(out: &mut impl Write, info: word::PVRTCTexelInfo) -> io::Result<()> {
-    let a = info.a;
-    let b = info.b;
-    let weight = info.weight;
     out.write_all(b"colours")?;
-    print_colour(out, a)?;
-    print_colour(out, b)?;
+    print_colour(out, info.a)?;
+    print_colour(out, info.b)?;
     end_line(out)?;
     out.write_all(b"4bpp")?;
-    print_sixteen(out, &weight)?;
-    print_number(out, info.punch_through_flag as u64)?;
+    print_bytes(out, &info.weight[..16])?;
+    print_number(out, info.punch_through_flag)?;
     end_line(out)
 }
 
 // The 32 weights and the fill rule.
 fn print_2bpp(out: &mut impl Write, info: word::PVRTCTexelInfo) -> io::Result<()> {
-    let weight = info.weight;
-    let fill = info.fill;
     out.write_all(b"2bpp")?;
-    print_bytes(out, &weight)?;
-    print_number(out, rule_number(fill))?;
+    print_bytes(out, &info.weight)?;
+    print_number(out, rule_number(info.fill))?;
     end_line(out)
 }
 
 // A colour's four numbers.
 fn print_colour(out: &mut impl Write, c: word::PVRTCTexelColor) -> io::Result<()> {
-    print_number(out, c.r as u64)?;
-    print_number(out, c.g as u64)?;
-    print_number(out, c.b as u64)?;
-    print_number(out, c.a as u64)
+    print_number(out, c.r)?;
+    print_number(out, c.g)?;
+    print_number(out, c.b)?;
+    print_number(out, c.a)
 }
 
 // The fill rule as the listing has it.
@@ -174,109 +176,60 @@ fn rule_number(fill: word::Fill) -> u64 {
     }
 }
 
-// The first sixteen bytes, where there are so many.
-fn print_sixteen(out: &mut impl Write, bytes: &[u8]) -> io::Result<()> {
-    if 16 <= bytes.len() {
-        print_bytes(out, &bytes[..16])?;
-    }
-    Ok(())
-}
-
 // Each byte.
 fn print_bytes(out: &mut impl Write, bytes: &[u8]) -> io::Result<()> {
     for byte in bytes {
-        print_byte(out, *byte)?;
+        print_number(out, *byte)?;
     }
     Ok(())
 }
 
-// One byte.
-fn print_byte(out: &mut impl Write, byte: u8) -> io::Result<()> {
-    print_number(out, byte as u64)
-}
-
-// The ten grids, with addresses by table or by quartering.
-fn print_grids(out: &mut impl Write, by_table: bool) -> io::Result<()> {
-    print_grid(out, 1, 1, by_table)?;
-    print_grid(out, 2, 1, by_table)?;
-    print_grid(out, 1, 2, by_table)?;
-    print_grid(out, 4, 4, by_table)?;
-    print_grid(out, 8, 2, by_table)?;
-    print_grid(out, 2, 8, by_table)?;
-    print_grid(out, 16, 16, by_table)?;
-    print_grid(out, 64, 1, by_table)?;
-    print_grid(out, 1, 64, by_table)?;
-    print_grid(out, 32, 8, by_table)
-}
-
-// One grid.
-fn print_grid(out: &mut impl Write, across: u16, down: u16, by_table: bool) -> io::Result<()> {
-    print_label(out, by_table)?;
-    print_number(out, across as u64)?;
-    print_number(out, down as u64)?;
-    for y in 0..down {
-        print_row(out, y, across, least(across, down), by_table)?;
-    }
-    end_line(out)
-}
-
-// Which of the two functions the line is by.
-fn print_label(out: &mut impl Write, by_table: bool) -> io::Result<()> {
-    if by_table {
-        out.write_all(b"table")
-    } else {
-        out.write_all(b"bits")
-    }
-}
-
-// The addresses of row y.
-fn print_row(
+// The ten grids, with addresses by one function, which has a name here.
+fn print_grids<F: Fn(usize, usize, usize) -> usize>(
     out: &mut impl Write,
-    y: u16,
-    across: u16,
-    side: u16,
-    by_table: bool,
-) -> io::Result<()> {
-    for x in 0..across {
-        print_address(out, x, y, side, by_table)?;
+    label: &str,
+    address: F,
+) -> io::Result<()>
+    requires { (x y side : ℕ) → Placed side x y → F.pre address x y side }
+{
+    let grids = [
+        (1, 1),
+        (2, 1),
+        (1, 2),
+        (4, 4),
+        (8, 2),
+        (2, 8),
+        (16, 16),
+        (64, 1),
+        (1, 64),
+        (32, 8),
+    ];
+    for (across, down) in grids {
+        write!(out, "{label} {across} {down}")?;
+        for y in 0..down {
+            for x in 0..across {
+                print_address(out, x, y, across.min(down), &address)?;
+            }
+        }
+        end_line(out)?;
     }
     Ok(())
 }
 
 // The address of block (x, y), or nothing where no grid with that smaller side has such a block.
-fn print_address(
+fn print_address<F: Fn(usize, usize, usize) -> usize>(
     out: &mut impl Write,
     x: u16,
     y: u16,
     side: u16,
-    by_table: bool,
-) -> io::Result<()> {
-    if least(x, y) < side {
-        if grid::is_power_of_two(side as usize) {
-            print_number(
-                out,
-                address_of(x as usize, y as usize, side as usize, by_table) as u64,
-            )?;
-        }
+    address: &F,
+) -> io::Result<()>
+    requires { (x y side : ℕ) → Placed side x y → F.pre address.now x y side }
+{
+    let side = usize::from(side);
+    let (x, y) = (usize::from(x), usize::from(y));
+    if x.min(y) < side && grid::is_power_of_two(side) {
+        print_number(out, address(x, y, side))?;
     }
     Ok(())
-}
-
-// The address by one function or the other.
-fn address_of(x: usize, y: usize, side: usize, by_table: bool) -> usize
-    requires { Placed side x y }
-{
-    if by_table {
-        let table = grid::spread_table();
-        grid::morton_index_by_table(&table, x, y, side)
-    } else {
-        grid::morton_index(x, y, side)
-    }
-}
-
-// The smaller of the two.
-fn least(a: u16, b: u16) -> u16
-    ensures { result ≡ min a b }
-{
-    if a < b { a } else { b }
 }
