@@ -1,10 +1,7 @@
 -- Where words stand: bits spread by masks, and an address as the sum of what its column and its row add. Assumes nothing.
-use mathlib.Core.Bool.{Bool, true, false}
-use mathlib.Core.Path.{◌≡◌, refl, sym, ap, ap₂, ◌∙◌}
-use Prim.Native.Nat.{ℕ, zero, suc, ◌+◌, ◌*◌, ◌/◌, ◌-◌, ◌≤◌, ◌<◌, min}
-use native.Mathlib.Omega.{arith}
-use lib.Bits.{bit_and, bit_or, and_zero_l}
-use lib.Dec.{eqb, eqb→eq}
+use Rattle.std.proofs.Common.{Bool, true, false, ◌≡◌, refl, sym, ap, ap₂, ◌∙◌, ℕ, zero, suc, ◌+◌, ◌*◌, ◌/◌, ◌-◌, ◌≤◌, ◌<◌, min, arith, bit_and, bit_or, eqb}
+use Rattle.std.proofs.Common.{eqb→eq}
+use lib.Bits.{and_zero_l}
 use Rattle.facts.proofs.Finite.{below}
 use Rattle.grid.proofs.Address.{address-small}
 use Rattle.grid.proofs.Spreading.{by-table}

@@ -1,6 +1,7 @@
 // What differs with the depth: how wide a block is, and what its word's modulation says of its texels.
 ghost use Rattle.std.specs.Prelude.{Bool, List, ℕ, ◌≡◌, ◌+◌, ◌*◌, ◌<◌, ◌≤◌, length};
 ghost use Rattle.grid.specs.Grid.{half};
+ghost use Rattle.word.specs.Word.{mode};
 ghost use Rattle.lanes.specs.declared.Meaning.{Meaning};
 ghost use Rattle.lanes.specs.Block.{Said, Middle};
 ghost use Rattle.lanes.specs.BlockRow.{InColumn};
@@ -9,8 +10,12 @@ ghost use Rattle.lanes.specs.Lanes.{Mask};
 
 use crate::{Meaning, RowAddresses};
 
+// All of a texel.
+pub const KEPT: u64 = 0x00ff00ff00ff00ff;
+
+// Codes at 4bpp and weights at 2bpp. Either is proved to say of each texel what the definition says (`fill`), and one walk lays both.
 pub trait Modulation: Copy {
-    // A row of the four.
+    // What is read of one row of the four.
     type Row: Copy;
 
     // Half a block's width.
@@ -23,6 +28,7 @@ pub trait Modulation: Copy {
     // What is read of the bytes from a word on.
     ghost stored: { List ℕ → Self };
 
+    // What filling may count on.
     ghost Good: { Self → Type 0 };
 
     ghost row_of: { Self → ℕ → Self.Row };
@@ -49,4 +55,12 @@ pub trait Modulation: Copy {
         ensures { (result ≡ says row i) × (result.weight ≤ 15) × Mask result.keep };
 
     ghost half_is: { HALF ≡ half two };
+}
+
+// Whether the mode of word z is 1.
+pub fn mode_at(d: &[u8], z: usize) -> bool
+    requires { 8 * z + 8 ≤ length d.now }
+    ensures { result ≡ mode (word_at d.now z) }
+{
+    d[8 * z + 4] % 2 == 1
 }

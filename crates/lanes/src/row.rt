@@ -31,6 +31,7 @@ fn lay_row<M: Modulation>(
     let h = M::HALF;
     let mut sum_a = a.first(h);
     let mut sum_b = b.first(h);
+    // All places of a block, also those past the sheet: i counts them, and chooses shares and meaning.
     for i in 0..2 * h {
         let meaning = M::meaning(row, i);
         let fit_a = fit(h as u64, sum_a);
@@ -57,6 +58,7 @@ fn lay_block<M: Modulation>(
     requires fits { Fits part (length image.old) × (part.width ≤ 2 * M.HALF) × (part.height ≤ 4) }
     ensures { image.new ≡ on_sheet part (in_block M.HALF (λ y. M.says (M.row_of said y)) left own right) image.old }
 {
+    // j is the row of seven things here, and no slice has one of each.
     for j in 0..part.height {
         let a = Sums {
             left: left.a[j],
@@ -87,7 +89,7 @@ fn block_at<M: Modulation>(
 {
     let part = part_across(x, row.smaller);
     Block {
-        part: part,
+        part,
         column: column_at(data, row, part, order),
         said: M::read(data, part + row.own),
     }

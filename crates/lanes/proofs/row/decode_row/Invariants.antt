@@ -1,5 +1,5 @@
 -- `lanes::row::decode_row` meets its contract. The loop keeps the window before block bx and the blocks laid so far. Assumes nothing.
-use Prim.Native.Nat.{◌-◌, ◌≤◌}
+use Rattle.std.proofs.Common.{◌-◌, ◌≤◌}
 use Rattle.lanes.proofs.Sliding.{Window, RowSoFar}
 use Rattle.lanes.proofs.row.decode_row.Given as goal
 
