@@ -9,9 +9,8 @@ use facts::Numbered;
 use listing::{Answer, Depth};
 use pixel::ChannelOrder;
 use replayed::{Fault, Output};
-use std::fmt;
-use std::io;
 use std::io::Write;
+use std::{fmt, io};
 
 // What is chosen of a file, where it ends, and how many words are lent for its picture.
 #[derive(Clone, Copy)]
@@ -56,7 +55,10 @@ impl fmt::Display for Case {
     fn fmt<W: fmt::Write>(&self, f: &mut fmt::Formatter<W>) -> fmt::Result {
         let (format, key_values, size) = (self.format, self.key_values, self.size);
         let (width, height, end, room) = (self.width, self.height, self.end, self.room);
-        write!(f, "{format:04x}, key/values {key_values}, {width} x {height}, ")?;
+        write!(
+            f,
+            "{format:04x}, key/values {key_values}, {width} x {height}, "
+        )?;
         write!(f, "size {size}, end {end}, room {room}")
     }
 }
@@ -232,7 +234,10 @@ fn print_header(out: &mut impl Write, file: &[u8]) -> io::Result<()> {
         Ok(plate) => {
             let (width, height, depth) = (plate.width, plate.height, Depth(plate.is2bpp));
             let (payload, size) = (plate.payload, plate.size);
-            write!(out, ": header {width} x {height}, {depth}, data at {payload}, size {size}")
+            write!(
+                out,
+                ": header {width} x {height}, {depth}, data at {payload}, size {size}"
+            )
         }
         Err(f) => write!(out, ": header refused {}", f.number()),
     }

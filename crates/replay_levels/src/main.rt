@@ -10,9 +10,8 @@ use levels::{Level, Refusal};
 use listing::Depth;
 use pixel::ChannelOrder;
 use replayed::Fault;
-use std::fmt;
-use std::io;
 use std::io::Write;
+use std::{fmt, io};
 
 // A file's kind.
 #[derive(Clone, Copy, PartialEq, Eq)]
@@ -76,7 +75,10 @@ impl fmt::Display for Case {
     fn fmt<W: fmt::Write>(&self, f: &mut fmt::Formatter<W>) -> fmt::Result {
         let (kind, depth, width, height) = (self.kind, Depth(self.is2bpp), self.width, self.height);
         let (levels, skipped) = (self.levels, self.skipped);
-        write!(f, "{kind} {depth} {width} x {height}, levels {levels}, skipped {skipped}")?;
+        write!(
+            f,
+            "{kind} {depth} {width} x {height}, levels {levels}, skipped {skipped}"
+        )?;
         if let Some(Wrong { level, word }) = self.wrong {
             write!(f, ", word {level} is {word}")?;
         }
@@ -118,7 +120,10 @@ fn print_all(out: &mut impl Write, bytes: &mut [u8]) -> io::Result<()> {
 // Each row of the tables as a file of both kinds and at both depths. Only a KTX file has a wrong size word, and no row but of `WORDS` has 99 for none.
 fn print_plates(out: &mut impl Write, listed: &[[u32; 8]], bytes: &mut [u8]) -> io::Result<()> {
     for [width, height, levels, skipped, level, word, from, to] in listed {
-        let wrong = (*level != 99).then_some(Wrong { level: *level, word: *word });
+        let wrong = (*level != 99).then_some(Wrong {
+            level: *level,
+            word: *word,
+        });
         for kind in [Kind::Pvr, Kind::Ktx] {
             for is2bpp in [false, true] {
                 if wrong.is_none() || kind == Kind::Ktx {
@@ -166,7 +171,11 @@ fn level_of(place: u32) -> usize {
 }
 
 fn print_level(out: &mut impl Write, case: Case, k: usize, bytes: &[u8]) -> io::Result<()> {
-    write!(out, "{case}, level {k}: {}", Described(levels::read_level(bytes, k)))?;
+    write!(
+        out,
+        "{case}, level {k}: {}",
+        Described(levels::read_level(bytes, k))
+    )?;
     print_decoded(out, bytes, k, ChannelOrder::BlueFirst)?;
     write!(out, "  red first")?;
     print_decoded(out, bytes, k, ChannelOrder::RedFirst)
@@ -224,8 +233,16 @@ fn print_two(
     second.bring(bytes);
     first.bring(bytes);
     write!(out, "{kind} faults {first} and {second}")?;
-    let k = if faults == [Fault::TooManyLevels, Fault::NoSuchLevel] { 33 } else { 1 };
-    let room = if faults.contains(&Fault::ShortImage) { 0 } else { 6000 };
+    let k = if faults == [Fault::TooManyLevels, Fault::NoSuchLevel] {
+        33
+    } else {
+        1
+    };
+    let room = if faults.contains(&Fault::ShortImage) {
+        0
+    } else {
+        6000
+    };
     print_answers(out, bytes, end_with(&faults, case), k, room)?;
     writeln!(out)?;
     print_red_first(out, bytes, end_with(&faults, case), k, room)
@@ -234,7 +251,11 @@ fn print_two(
 // A plate of 8 by 64 texels at 4bpp, with what refusals are given for, as far as it is chosen. With a large side the rows are 65,600, of which level
 // 1 would not be refused for that but for its blocks.
 fn faulty(kind: Kind, faults: &[Fault]) -> Case {
-    let width = if faults.contains(&Fault::ZeroSide) { 0 } else { 8 };
+    let width = if faults.contains(&Fault::ZeroSide) {
+        0
+    } else {
+        8
+    };
     let wrong = faults
         .contains(&Fault::OtherSize)
         .then_some(Wrong { level: 1, word: 33 });

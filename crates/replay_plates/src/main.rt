@@ -91,10 +91,7 @@ fn print_sizes(out: &mut impl Write, bytes: &mut [u8]) -> io::Result<()> {
 fn print_tiny(out: &mut impl Write, bytes: &mut [u8]) -> io::Result<()> {
     for (format, width, height, end) in &tables::TINY {
         lay_sized(bytes, *format, *width, *height);
-        write!(
-            out,
-            "end {end}, format {format}, size {width} x {height}"
-        )?;
+        write!(out, "end {end}, format {format}, size {width} x {height}")?;
         print_answer(out, bytes, *end)?;
     }
     Ok(())
