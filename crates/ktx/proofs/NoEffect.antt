@@ -1,12 +1,8 @@
 -- Type size, base format, levels, the key/value bytes and whatever follows level 0 have no effect on how a file is read. Assumes nothing.
-use mathlib.Core.Path.{◌≡◌, refl, sym, ap, ap₂, ◌∙◌}
-use mathlib.Core.Bool.{Bool, true, false, cond, not, ◌&&◌}
-use mathlib.Core.List.{List, [], ◌∷◌, ◌++◌}
-use Prim.Native.Nat.{ℕ, ◌+◌, ◌<◌, ◌≤◌}
-use native.Mathlib.Omega.{arith}
-use lib.Dec.{T, eqb, ltb, leb}
-use lib.ListN.{length, get_or, drop, length-append, get_or-append}
-use borrow.Author.Tests.{ltb-false, le-ltb, lt-leb, le-leb}
+use Rattle.std.proofs.Common.{◌≡◌, ℕ, ◌+◌, ◌<◌, ◌≤◌, Bool, true, false, cond, not, ◌&&◌, T, eqb, ltb, leb, List, [], ◌∷◌, ◌++◌, length, get_or, drop, Result}
+use Rattle.std.proofs.Common.{sym, refl, ap, ◌∙◌, ap₂, arith, length-append, ltb-false, le-ltb, le-leb}
+use lib.ListN.{get_or-append}
+use borrow.Author.Tests.{lt-leb}
 use Rattle.facts.specs.Checks.{check, first_of}
 use Rattle.facts.specs.Finite.{all_below}
 use Rattle.facts.proofs.Checks.{first-append}
@@ -19,8 +15,9 @@ use Rattle.paint.specs.Sheet.{on_sheet}
 use Rattle.pixel.specs.declared.ChannelOrder.{ChannelOrder}
 use Rattle.pvrtc.specs.Picture.{in_order, sheet_of, picture_texel}
 use Rattle.pvrtc.specs.declared.Picture.{Picture}
-use Rattle.ktx.specs.declared.Decoded.{Decoded}
-use Rattle.ktx.specs.declared.Header.{Header}
+use Rattle.ktx.specs.declared.HeaderRefusal.{HeaderRefusal}
+use Rattle.ktx.specs.declared.Plate.{Plate}
+use Rattle.ktx.specs.declared.Refusal.{Refusal}
 use Rattle.ktx.specs.Header.{header_size, identifier, internal_format, has_two_bits, is_two, width_field, height_field}
 use Rattle.ktx.specs.Header.{key_value_bytes, size_place, payload_offset}
 use Rattle.ktx.specs.Header.{short_header, not_ktx, other_byte_order, unknown_format, not_one_plate, cut_short}
@@ -122,7 +119,7 @@ module _ {f g : List ℕ} (s : SameHeader f g) where
   same-payload = ap (λ (n : ℕ). n + 4) (same_place s.fields)
 
   -- its answer
-  pub no-effect : {r : Header} → HeaderRead f r → HeaderRead g r
+  pub no-effect : {r : Result Plate HeaderRefusal} → HeaderRead f r → HeaderRead g r
   no-effect p =
       record {
         number = p.number ∙ same_number;
@@ -144,7 +141,7 @@ module _ {f g : List ℕ} (s : SameHeader f g) where
       ∙ sym (first-append (header_checks g) _ tt)
 
   -- and where the data is the same, its picture
-  pub same-decoded : level_data f ≡ level_data g → {order : ChannelOrder} {old new : List ℕ} {r : Decoded} → KtxDecoded order f old new r
+  pub same-decoded : level_data f ≡ level_data g → {order : ChannelOrder} {old new : List ℕ} {r : Result (Unit {0}) Refusal} → KtxDecoded order f old new r
       → KtxDecoded order g old new r
   same-decoded same-data {order} {old} a =
       let e = same-refusal (ap length same-data) (length old) in

@@ -1,12 +1,11 @@
 -- The KTX version 1 header, as document 02 says it (W1). Assumes nothing: these are definitions.
 -- `file` is the list of the file's bytes; a byte past its end counts as 0.
-use Rattle.std.specs.Prelude.{◌≡◌, Bool, cond, not, ◌||◌, List, [], ◌∷◌, ◌++◌, ℕ, ◌+◌, eqb, ltb, length}
-use Rattle.facts.specs.Checks.{Check, check, first_of}
+use Rattle.std.specs.Prelude.{◌≡◌, Bool, cond, not, ◌||◌, List, [], ◌∷◌, ◌++◌, ℕ, ◌+◌, eqb, ltb, length, Result, Ok, Err}
+use Rattle.facts.specs.Checks.{Check, check, first_of, number_said}
 use Rattle.files.specs.Fields.{u32_at, starts_with, bits_of, unless_refused}
-use Rattle.ktx.specs.declared.Header.{Header}
-use Rattle.ktx.specs.declared.Header.TheVariants.{Plate, Refused}
 use Rattle.ktx.specs.declared.HeaderRefusal.{HeaderRefusal}
 use Rattle.ktx.specs.declared.HeaderRefusal.TheVariants.{ShortHeader, NotKtx, OtherByteOrder, UnknownFormat, NotOnePlate, CutShort}
+use Rattle.ktx.specs.declared.Plate.{Plate}
 
 -- The identifier and thirteen fields: 64 bytes.
 abbrev pub header_size : ℕ
@@ -161,37 +160,36 @@ number_of NotOnePlate = 35
 number_of CutShort = 37
 
 -- The number that an answer says: 0 for none.
-abbrev pub header_number : Header → ℕ
-header_number (Plate width height two payload size) = 0
-header_number (Refused f) = number_of f
+abbrev pub header_number : Result Plate HeaderRefusal → ℕ
+header_number r = number_said number_of r
 
 -- The width that an answer gives: 0 where it refuses.
-abbrev pub header_width : Header → ℕ
-header_width (Plate width height two payload size) = width
-header_width (Refused f) = 0
+abbrev pub header_width : Result Plate HeaderRefusal → ℕ
+header_width (Ok p) = p.width
+header_width (Err f) = 0
 
 -- The height that an answer gives: 0 where it refuses.
-abbrev pub header_height : Header → ℕ
-header_height (Plate width height two payload size) = height
-header_height (Refused f) = 0
+abbrev pub header_height : Result Plate HeaderRefusal → ℕ
+header_height (Ok p) = p.height
+header_height (Err f) = 0
 
 -- The bits a texel that an answer gives: 0 where it refuses.
-abbrev pub header_bits : Header → ℕ
-header_bits (Plate width height two payload size) = bits_of two
-header_bits (Refused f) = 0
+abbrev pub header_bits : Result Plate HeaderRefusal → ℕ
+header_bits (Ok p) = bits_of p.is2bpp
+header_bits (Err f) = 0
 
 -- The payload offset that an answer gives: 0 where it refuses.
-abbrev pub header_payload : Header → ℕ
-header_payload (Plate width height two payload size) = payload
-header_payload (Refused f) = 0
+abbrev pub header_payload : Result Plate HeaderRefusal → ℕ
+header_payload (Ok p) = p.payload
+header_payload (Err f) = 0
 
 -- The size word that an answer gives: 0 where it refuses.
-abbrev pub header_size_word : Header → ℕ
-header_size_word (Plate width height two payload size) = size
-header_size_word (Refused f) = 0
+abbrev pub header_size_word : Result Plate HeaderRefusal → ℕ
+header_size_word (Ok p) = p.size
+header_size_word (Err f) = 0
 
 -- Reading a header: its number, and where that is 0 the sizes, the bits a texel, the payload offset and the size word.
-pub record HeaderRead (file : List ℕ) (r : Header) : Type 0 where
+pub record HeaderRead (file : List ℕ) (r : Result Plate HeaderRefusal) : Type 0 where
   pub number : header_number r ≡ header_refusal file
   pub width : header_width r ≡ unless_refused (header_refusal file) (width_field file)
   pub height : header_height r ≡ unless_refused (header_refusal file) (height_field file)

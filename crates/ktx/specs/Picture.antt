@@ -1,6 +1,6 @@
 -- The picture of a KTX file, as document 02 says it (W1). Assumes nothing: these are definitions.
-use Rattle.std.specs.Prelude.{◌≡◌, Bool, cond, not, List, ◌∷◌, ◌++◌, ℕ, eqb, length, drop}
-use Rattle.facts.specs.Checks.{Check, check, first_of}
+use Rattle.std.specs.Prelude.{◌≡◌, Bool, cond, not, List, ◌∷◌, ◌++◌, ℕ, eqb, length, drop, Result}
+use Rattle.facts.specs.Checks.{Check, check, first_of, number_said}
 use Rattle.paint.specs.Sheet.{on_sheet}
 use Rattle.pixel.specs.declared.ChannelOrder.{ChannelOrder}
 use Rattle.pixel.specs.declared.ChannelOrder.TheVariants.{BlueFirst}
@@ -11,8 +11,8 @@ use Rattle.pvrtc.specs.declared.Call.TheVariants.{Block}
 use Rattle.pvrtc.specs.declared.GridMode.TheVariants.{Stored}
 use Rattle.pvrtc.specs.declared.Picture.{Picture}
 use Rattle.ktx.specs.Header.{width_field, height_field, is_two, size_word_of, payload_offset, header_checks, number_of}
-use Rattle.ktx.specs.declared.Decoded.{Decoded}
-use Rattle.ktx.specs.declared.Decoded.TheVariants.{Done, Unread, OtherSize, Refused}
+use Rattle.ktx.specs.declared.Refusal.{Refusal}
+use Rattle.ktx.specs.declared.Refusal.TheVariants as reason
 
 -- The plate that a header describes. A file has the stored grid, and says no order: blue first.
 abbrev pub plate_of : List ℕ → Picture
@@ -40,16 +40,19 @@ picture_checks file room = header_checks file ++ sized_checks (plate_of file) (s
 abbrev pub picture_refusal : List ℕ → (room : ℕ) → ℕ
 picture_refusal file room = first_of (picture_checks file room)
 
--- Document 02's number of an answer: 0 for none.
-abbrev pub decoded_number : Decoded → ℕ
-decoded_number Done = 0
-decoded_number (Unread f) = number_of f
-decoded_number OtherSize = 36
-decoded_number (Refused f) = call.number_of f
+-- Document 02's number of a refusal.
+abbrev pub reason_number : Refusal → ℕ
+reason_number (reason.Unread f) = number_of f
+reason_number reason.OtherSize = 36
+reason_number (reason.Picture f) = call.number_of f
+
+-- The number of an answer: 0 for none.
+abbrev pub decoded_number : Result (Unit {0}) Refusal → ℕ
+decoded_number r = number_said reason_number r
 
 -- Decoding a file in an order of channels: its number, and the lent words afterwards. Where the number is 0, texel (x, y) stands at word
 -- y × width + x and later words are as they were; else all are.
-pub record KtxDecoded (order : ChannelOrder) (file old new : List ℕ) (r : Decoded) : Type 0 where
+pub record KtxDecoded (order : ChannelOrder) (file old new : List ℕ) (r : Result (Unit {0}) Refusal) : Type 0 where
   pub number : decoded_number r ≡ picture_refusal file (length old)
   pub words : new
       ≡ cond (eqb (picture_refusal file (length old)) 0)

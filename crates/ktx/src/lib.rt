@@ -2,16 +2,14 @@
 #![tactic(auto)]
 
 mod decoder;
+mod numbers;
 mod reader;
 
-pub use decoder::{decode_ktx, decoded_number};
-use files::Stored;
-pub use reader::{
-    header_refusal_number, is_ktx, level_count, read_fields, read_header, read_plate, size_place,
-};
+pub use decoder::decode_ktx;
+pub use reader::{is_ktx, level_count, read_fields, read_header, read_plate, size_place};
 
 // Why a header is refused, in document 02's words.
-#[derive(Clone, Copy)]
+#[derive(Clone, Copy, Debug, PartialEq, Eq)]
 pub enum HeaderRefusal {
     ShortHeader,
     NotKtx,
@@ -21,31 +19,20 @@ pub enum HeaderRefusal {
     CutShort,
 }
 
-// What reading the header's fields answers: the plate that they describe, cut short or not, or a refusal.
-#[derive(Clone, Copy)]
-pub enum Fields {
-    Plate(Stored),
-    Refused(HeaderRefusal),
+// What a header says of its plate: the sides, the depth, where the data begins, and how many bytes it is said to have.
+#[derive(Clone, Copy, Debug, PartialEq, Eq)]
+pub struct Plate {
+    pub width: usize,
+    pub height: usize,
+    pub is2bpp: bool,
+    pub payload: usize,
+    pub size: u32,
 }
 
-// What reading a header answers.
-#[derive(Clone, Copy)]
-pub enum Header {
-    Plate {
-        width: usize,
-        height: usize,
-        is2bpp: bool,
-        payload: usize,
-        size: u32,
-    },
-    Refused(HeaderRefusal),
-}
-
-// What decoding a file answers: the header's refusal, that the file says another size than its picture needs, or the block call's refusal.
-#[derive(Clone, Copy)]
-pub enum Decoded {
-    Done,
+// Why a file is not decoded: the header's refusal, that the file says another size than its picture needs, or the block call's refusal.
+#[derive(Clone, Copy, Debug, PartialEq, Eq)]
+pub enum Refusal {
     Unread(HeaderRefusal),
     OtherSize,
-    Refused(pvrtc::Refusal),
+    Picture(pvrtc::Refusal),
 }

@@ -1,20 +1,14 @@
 // The header of a KTX version 1 file, with what follows it up to the data: key/value bytes and a size word.
 ghost use Rattle.std.specs.Prelude.{◌≡◌, ◌<◌};
-ghost use Rattle.files.specs.Reading.{reading_of};
+ghost use Rattle.files.specs.Reading.{Shown};
 ghost use Rattle.ktx.specs.Header.{is_ktx, has_four_bits, has_two_bits, is_pvrtc, unknown_format, not_one_plate};
 ghost use Rattle.ktx.specs.Header.{level_count, size_place, size_word_of, number_of, HeaderRead};
-ghost use Rattle.ktx.specs.Inner.{FieldsSay, said_bytes, header_of};
+ghost use Rattle.ktx.specs.Inner.{FieldsSay};
 ghost use Rattle.ktx.specs.Reading.{ktx_plate, FieldsRead, ktx_says};
 
-use crate::{Fields, Header, HeaderRefusal};
-use files::{Reading, Size, Stored};
-
-// What the header's fields say by themselves.
-#[derive(Clone, Copy)]
-enum Checked {
-    Fine,
-    Refused(HeaderRefusal),
-}
+use crate::{HeaderRefusal, Plate};
+use facts::refuse_if;
+use files::Stored;
 
 // The bytes that a header begins with.
 const IDENTIFIER: [u8; 12] = [
@@ -29,20 +23,6 @@ pub fn is_ktx(file: &[u8]) -> bool
     ensures { result ≡ is_ktx file.now }
 {
     files::starts_with(file, &KTX_BYTES)
-}
-
-// Document 02's number of a refusal.
-pub fn header_refusal_number(f: HeaderRefusal) -> u64
-    ensures { result ≡ number_of f }
-{
-    match f {
-        HeaderRefusal::ShortHeader => 31,
-        HeaderRefusal::NotKtx => 32,
-        HeaderRefusal::OtherByteOrder => 33,
-        HeaderRefusal::UnknownFormat => 34,
-        HeaderRefusal::NotOnePlate => 35,
-        HeaderRefusal::CutShort => 37,
-    }
 }
 
 // Whether an internal format is PVRTC at 4 bits a texel: without alpha, or with it.
@@ -69,56 +49,40 @@ fn is_pvrtc(format: u32) -> bool
 fn is_unknown_format(file: &[u8]) -> bool
     ensures { result ≡ unknown_format file.now }
 {
-    if files::u32_at(file, 16) != 0 {
-        return true;
-    }
-    if files::u32_at(file, 24) != 0 {
-        return true;
-    }
-    !is_pvrtc(files::u32_at(file, 28))
+    files::u32_at(file, 16) != 0
+        || files::u32_at(file, 24) != 0
+        || !is_pvrtc(files::u32_at(file, 28))
 }
 
 // Whether a field says that the file holds something else than one plate: the depth at 44, array elements at 48, faces at 52.
 fn is_not_one_plate(file: &[u8]) -> bool
     ensures { result ≡ not_one_plate file.now }
 {
-    if files::u32_at(file, 44) != 0 {
-        return true;
-    }
-    if files::u32_at(file, 48) != 0 {
-        return true;
-    }
-    files::u32_at(file, 52) != 1
+    files::u32_at(file, 44) != 0 || files::u32_at(file, 48) != 0 || files::u32_at(file, 52) != 1
 }
 
 // The first refusal of the fields whose condition holds.
-fn check_fields(file: &[u8]) -> Checked
+fn check_fields(file: &[u8]) -> Result<(), HeaderRefusal>
     ensures { FieldsSay file.now result }
 {
-    if file.len() < 64 {
-        return Checked::Refused(HeaderRefusal::ShortHeader);
-    }
-    if !files::starts_with(file, &IDENTIFIER) {
-        return Checked::Refused(HeaderRefusal::NotKtx);
-    }
-    if files::u32_at(file, 12) != 0x04030201 {
-        return Checked::Refused(HeaderRefusal::OtherByteOrder);
-    }
-    if is_unknown_format(file) {
-        return Checked::Refused(HeaderRefusal::UnknownFormat);
-    }
-    if is_not_one_plate(file) {
-        return Checked::Refused(HeaderRefusal::NotOnePlate);
-    }
-    Checked::Fine
+    refuse_if(file.len() < 64, HeaderRefusal::ShortHeader)?;
+    refuse_if(
+        !files::starts_with(file, &IDENTIFIER),
+        HeaderRefusal::NotKtx,
+    )?;
+    refuse_if(
+        files::u32_at(file, 12) != 0x04030201,
+        HeaderRefusal::OtherByteOrder,
+    )?;
+    refuse_if(is_unknown_format(file), HeaderRefusal::UnknownFormat)?;
+    refuse_if(is_not_one_plate(file), HeaderRefusal::NotOnePlate)
 }
 
 // How many levels the file says that it holds, by the field at 56: none means one.
 pub fn level_count(file: &[u8]) -> u32
     ensures { (result ≡ level_count file.now) × (result < 4294967296) }
 {
-    let levels = files::u32_at(file, 56);
-    if levels == 0 { 1 } else { levels }
+    files::u32_at(file, 56).max(1)
 }
 
 // Where the key/value bytes end; how many these are stands at 60. A size word follows.
@@ -139,79 +103,45 @@ fn size_word(file: &[u8]) -> u32
 fn stored_plate(file: &[u8]) -> Stored
     ensures { result ≡ ktx_plate file.now }
 {
-    let format = files::u32_at(file, 28);
-    let width = files::u32_at(file, 36) as usize;
-    let height = files::u32_at(file, 40) as usize;
     let place = size_place(file);
-    let skipped = place - 64;
     let payload = place + 4;
     Stored {
-        width: width,
-        height: height,
-        is2bpp: is_2bpp(format),
-        skipped: skipped,
+        width: files::u32_at(file, 36) as usize,
+        height: files::u32_at(file, 40) as usize,
+        is2bpp: is_2bpp(files::u32_at(file, 28)),
+        skipped: place - 64,
         cut: file.len() < payload,
-        size: Size::Bytes(size_word(file)),
-        payload: payload,
+        size: Some(size_word(file)),
+        payload,
     }
 }
 
-// The size that a plate is said to have.
-fn said_bytes(size: Size) -> u32
-    ensures { result ≡ said_bytes size }
-{
-    match size {
-        Size::Unsaid => 0,
-        Size::Bytes(n) => n,
-    }
-}
-
-// A plate as a header's answer: refused where it is cut short.
-fn header_of(s: Stored) -> Header
-    ensures { result ≡ header_of s }
-{
-    if s.cut {
-        return Header::Refused(HeaderRefusal::CutShort);
-    }
-    let said = s.size;
-    Header::Plate {
-        width: s.width,
-        height: s.height,
-        is2bpp: s.is2bpp,
-        payload: s.payload,
-        size: said_bytes(said),
-    }
-}
-
-// The plate that the fields describe, or the first refusal of theirs whose condition holds.
-pub fn read_fields(file: &[u8]) -> Fields
+// The plate that the fields describe, cut short or not, or the first refusal of theirs whose condition holds.
+pub fn read_fields(file: &[u8]) -> Result<Stored, HeaderRefusal>
     ensures { FieldsRead file.now result }
 {
-    let checked = check_fields(file);
-    match checked {
-        Checked::Refused(f) => Fields::Refused(f),
-        Checked::Fine => Fields::Plate(stored_plate(file)),
-    }
+    check_fields(file)?;
+    Ok(stored_plate(file))
 }
 
 // The sizes, the depth, the payload offset and the size word of the plate that a file holds, or the first refusal whose condition holds.
-pub fn read_header(file: &[u8]) -> Header
+pub fn read_header(file: &[u8]) -> Result<Plate, HeaderRefusal>
     ensures { HeaderRead file.now result }
 {
-    let fields = read_fields(file);
-    match fields {
-        Fields::Refused(f) => Header::Refused(f),
-        Fields::Plate(s) => header_of(s),
-    }
+    let stored = read_fields(file)?;
+    refuse_if(stored.cut, HeaderRefusal::CutShort)?;
+    Ok(Plate {
+        width: stored.width,
+        height: stored.height,
+        is2bpp: stored.is2bpp,
+        payload: stored.payload,
+        size: size_word(file),
+    })
 }
 
 // What the program is told of a file that is taken as KTX.
-pub fn read_plate(file: &[u8]) -> Reading
-    ensures { result ≡ reading_of (ktx_says file.now) }
+pub fn read_plate(file: &[u8]) -> Result<Stored, HeaderRefusal>
+    ensures { Shown number_of (ktx_says file.now) result }
 {
-    let fields = read_fields(file);
-    match fields {
-        Fields::Refused(f) => Reading::Refused(header_refusal_number(f)),
-        Fields::Plate(s) => Reading::Plate(s),
-    }
+    read_fields(file)
 }

@@ -1,11 +1,6 @@
 -- What is known of a picture that a call accepts. Assumes nothing.
-use mathlib.Core.Path.{◌≡◌, refl}
-use mathlib.Core.Bool.{false, not}
-use Prim.Native.Nat.{ℕ, ◌*◌, ◌/◌, ◌≤◌, ◌<◌}
-use native.Mathlib.Nat.{lt_of_lt_of_le}
-use native.Mathlib.Omega.{arith}
-use lib.Dec.{eqb, ltb, leb}
-use borrow.Author.Tests.{eqb-false, ltb-false, leb-false, lt-leb, not-false}
+use Rattle.std.proofs.Common.{◌≡◌, ℕ, ◌*◌, ◌/◌, ◌<◌, ◌≤◌, false, not, eqb, ltb, leb, refl, lt_of_lt_of_le, arith, ltb-false, leb-false}
+use borrow.Author.Tests.{eqb-false, lt-leb, not-false}
 use Rattle.facts.specs.Checks.{first_of, condition}
 use Rattle.facts.proofs.Checks.{none_said}
 use Rattle.facts.proofs.Or.{or_left, or_right}

@@ -1,7 +1,6 @@
 -- The three calls agree: a word of a row, and of a picture, is what the texel call answers there. Assumes nothing.
-use Rattle.std.proofs.Common.{◌≡◌, sym, ap, ◌∙◌, ℕ, ◌+◌, ◌*◌, ◌/◌, ◌%◌, ◌≤◌, ◌<◌, List, length, get_or, Ok, arith}
-use Rattle.std.specs.Prelude.{Result}
-use native.Mathlib.Nat.{div-add-mod', div-lt_iff_lt-mul, mod-lt, mul-le-mul_right}
+use Rattle.std.proofs.Common.{◌≡◌, ℕ, ◌+◌, ◌*◌, ◌/◌, ◌%◌, ◌<◌, ◌≤◌, List, length, get_or, Ok, Result, sym, ap, ◌∙◌, mul-le-mul_right, mod-lt}
+use Rattle.std.proofs.Common.{div-lt_iff_lt-mul, div-add-mod', arith}
 use Rattle.paint.specs.Paint.{painted}
 use Rattle.paint.proofs.Painted.{painted-in}
 use Rattle.pvrtc.specs.declared.Call.TheVariants as call

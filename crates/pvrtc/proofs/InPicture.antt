@@ -1,11 +1,5 @@
 -- What the block call's loops need: a block's buffer holds the picture's texels, and an accepted picture is ready. Assumes nothing.
-use mathlib.Core.Path.{◌≡◌, refl, ap, ap₂, ◌∙◌}
-use mathlib.Core.Bool.{Bool}
-use mathlib.Core.List.{List}
-use Prim.Native.Nat.{ℕ, ◌+◌, ◌-◌, ◌*◌, ◌≤◌, ◌<◌}
-use native.Mathlib.Nat.{mul-le-mul_right}
-use native.Mathlib.Omega.{arith}
-use lib.ListN.{length, get_or}
+use Rattle.std.proofs.Common.{◌≡◌, ℕ, ◌+◌, ◌-◌, ◌*◌, ◌<◌, ◌≤◌, Bool, List, length, get_or, refl, ap, ◌∙◌, ap₂, mul-le-mul_right, arith}
 use Rattle.facts.proofs.Numbers.{split}
 use Rattle.facts.proofs.Tab.{tab-front}
 use Rattle.grid.specs.declared.Grid.{Grid}

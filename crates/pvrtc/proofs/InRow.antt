@@ -1,8 +1,7 @@
 -- What the loop of the row call keeps and needs. Assumes nothing.
-use Rattle.std.proofs.Common.{◌≡◌, sym, ap, ◌∙◌, Bool, true, false, cond, eqb, List, ⊎_elim, ℕ, ◌+◌, ◌-◌, ◌/◌, ◌%◌, ◌≤◌, ◌<◌, Ok, Err, arith}
-use Rattle.std.proofs.Common.{length, set, get_or, drop, eq-eqb, ne_eqb}
-use Rattle.std.specs.Prelude.{Result}
-use native.Mathlib.Nat.{zero-add, zero-mod, zero-div, mod-lt, mod_self, mod-eq_of_lt, add-mod_right, eq-zero-or-pos}
+use Rattle.std.proofs.Common.{◌≡◌, ℕ, ◌+◌, ◌-◌, ◌/◌, ◌%◌, ◌<◌, ◌≤◌, Bool, true, false, cond, eqb, List, length, get_or, drop, set, Ok, Err, Result, sym, ap}
+use Rattle.std.proofs.Common.{◌∙◌, ⊎_elim, mod-lt, mod-eq_of_lt, eq-zero-or-pos, zero-add, arith, eq-eqb, ne_eqb}
+use native.Mathlib.Nat.{zero-mod, zero-div, mod_self, add-mod_right}
 use Rattle.facts.proofs.Tab.{tab-front, filled-length}
 use Rattle.grid.specs.declared.Grid.{Grid}
 use Rattle.grid.specs.Grid.{half, block_width, beside}

@@ -1,6 +1,5 @@
 -- The sides of a grid in either mode. Assumes nothing.
-use Prim.Native.Nat.{ℕ, ◌≤◌}
-use native.Mathlib.Omega.{arith}
+use Rattle.std.proofs.Common.{ℕ, ◌≤◌, arith}
 use Rattle.pvrtc.specs.declared.GridMode.{GridMode}
 use Rattle.pvrtc.specs.declared.GridMode.TheVariants.{Rust, Stored}
 use Rattle.pvrtc.specs.Picture.{side_in}

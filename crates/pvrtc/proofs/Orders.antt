@@ -1,8 +1,5 @@
 -- The order of channels: no refusal hangs on it, and red first a word is the same texel's with two bytes exchanged. Assumes nothing.
-use mathlib.Core.Path.{◌≡◌, refl, ap}
-use mathlib.Core.List.{List}
-use Prim.Native.Nat.{ℕ, ◌*◌}
-use lib.ListN.{length, drop}
+use Rattle.std.proofs.Common.{◌≡◌, ℕ, ◌*◌, List, length, drop, refl, ap}
 use Rattle.facts.specs.Checks.{first_of}
 use Rattle.grid.specs.Grid.{half, block_address}
 use Rattle.pixel.proofs.Exchanged.{exchanging}

@@ -1,6 +1,5 @@
 -- No two answers meet the promise of a call. Assumes nothing.
-use Rattle.std.proofs.Common.{◌≡◌, refl, sym, ◌∙◌, false, eqb, ℕ, ◌≤◌, List, Ok, Err, arith, ne_eqb}
-use Rattle.std.specs.Prelude.{Result}
+use Rattle.std.proofs.Common.{◌≡◌, ℕ, ◌≤◌, false, eqb, List, Ok, Err, Result, sym, refl, ◌∙◌, arith, ne_eqb}
 use Rattle.facts.specs.Checks.{Check}
 use Rattle.facts.proofs.Said.{same-answer, same-said}
 use Rattle.facts.proofs.Said as said

@@ -1,7 +1,6 @@
 // The refusals of a call, in their order.
 ghost use Rattle.std.specs.Prelude.{◌≡◌, false};
-ghost use Rattle.pvrtc.specs.Refusals.{zero_side, large_side, short_data, short_image, not_power, outside, Says, size_checks, checks};
-ghost use Rattle.pvrtc.specs.Refusals.{number_of};
+ghost use Rattle.pvrtc.specs.Refusals.{zero_side, large_side, short_data, short_image, not_power, outside, number_of, Says, size_checks, checks};
 ghost use Rattle.pvrtc.specs.Numbers.{number-above, same-refusal};
 
 use crate::layout::grid_of;

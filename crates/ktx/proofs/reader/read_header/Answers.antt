@@ -1,13 +1,29 @@
 -- `ktx::reader::read_header` meets its contract. Assumes nothing.
-use Rattle.ktx.proofs.Answers.{by-fields, by-stored}
+use Rattle.std.proofs.Common.{sym, ap}
+use Rattle.facts.proofs.Said.{at_exit}
+use Rattle.files.specs.declared.Stored.{Stored}
+use Rattle.ktx.proofs.Answers.{by-refusal, by-plate, by-fields, by-cut, is-plate}
 use Rattle.ktx.proofs.reader.read_header.Goals as goal
 
-pub returns-in-Refused : goal.returns-in-Refused
-returns-in-Refused c =
-    let file = c.args.file.now in
-    by-fields file c.read_fields-fields.ensures c.in-Refused.is
+pub returns-in_err-stored : goal.returns-in_err-stored
+returns-in_err-stored c =
+    rw (at_exit c.from_residual.ensures) (by-fields c.args.file.now c.in_err-stored.ensures)
 
-pub returns-in-Plate : goal.returns-in-Plate
-returns-in-Plate c =
+pub returns-in_err-refuse_if : goal.returns-in_err-refuse_if
+returns-in_err-refuse_if c =
+    rw (at_exit c.from_residual-in_err-refuse_if.ensures)
+    (by-refusal (by-cut c.args.file.now c.in_ok-stored.ensures c.in_err-refuse_if.ensures))
+
+pub returns : goal.returns
+returns c =
     let file = c.args.file.now in
-    by-stored file c.read_fields-fields.ensures c.in-Plate.is c.header_of.ensures
+    let is = is-plate file c.in_ok-stored.ensures in
+    by-plate
+    (record {
+      accepted = sym (by-cut file c.in_ok-stored.ensures c.in_ok-refuse_if.ensures);
+      width = ap (λ (s : Stored). s.width) is;
+      height = ap (λ (s : Stored). s.height) is;
+      depth = ap (λ (s : Stored). s.is2bpp) is;
+      payload = ap (λ (s : Stored). s.payload) is;
+      said = c.size_word.ensures.0;
+    })

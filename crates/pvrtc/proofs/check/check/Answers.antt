@@ -1,5 +1,5 @@
 -- `pvrtc::check::check` meets its contract: the first condition that holds is told. Assumes nothing.
-use Rattle.std.proofs.Common.{arith, sym}
+use Rattle.std.proofs.Common.{sym, arith}
 use Rattle.facts.proofs.Checks.{none_said, said-first}
 use Rattle.facts.proofs.Said.{at_exit}
 use Rattle.facts.specs.Checks.{first_of}
@@ -19,7 +19,7 @@ pub returns-in_err-refuse_if : goal.returns-in_err-refuse_if
 unfolding first_of
 returns-in_err-refuse_if c =
     rw (at_exit c.from_residual-in_err-refuse_if.ensures)
-    (grind (arith, c.in_ok-check_sizes.ensures, c.in_err-refuse_if.ensures, number-above c.in_err-refuse_if.field-0.0, c.has_short_data.ensures))
+    (grind (arith, number-above c.in_err-refuse_if.field-0.0))
 
 pub has_short_image-requires : goal.has_short_image-requires
 has_short_image-requires c = none_said (size_checks c.args.p) tt (sym c.in_ok-check_sizes.ensures) 2
@@ -28,14 +28,14 @@ pub returns-in_err-refuse_if-2 : goal.returns-in_err-refuse_if-2
 unfolding first_of
 returns-in_err-refuse_if-2 c =
     rw (at_exit c.from_residual-in_err-refuse_if-2.ensures)
-    (grind (arith, c.in_ok-check_sizes.ensures, c.in_ok-refuse_if.ensures, c.in_err-refuse_if-2.ensures, number-above c.in_err-refuse_if-2.field-0.0, c.has_short_data.ensures, c.has_short_image.ensures))
+    (grind (arith, number-above c.in_err-refuse_if-2.field-0.0))
 
 pub returns-in_err-refuse_if-3 : goal.returns-in_err-refuse_if-3
 unfolding first_of
 returns-in_err-refuse_if-3 c =
     rw (at_exit c.from_residual-in_err-refuse_if-3.ensures)
-    (grind (arith, c.in_ok-check_sizes.ensures, c.in_ok-refuse_if.ensures, c.in_ok-refuse_if-2.ensures, c.in_err-refuse_if-3.ensures, number-above c.in_err-refuse_if-3.field-0.0, c.has_short_data.ensures, c.has_short_image.ensures, c.has_no_power.ensures))
+    (grind (arith, number-above c.in_err-refuse_if-3.field-0.0))
 
 pub returns : goal.returns
 unfolding first_of
-returns c = grind (arith, c.in_ok-check_sizes.ensures, c.in_ok-refuse_if.ensures, c.in_ok-refuse_if-2.ensures, c.in_ok-refuse_if-3.ensures, c.has_short_data.ensures, c.has_short_image.ensures, c.has_no_power.ensures, c.is_outside.ensures, c.refuse_if-4.ensures)
+returns c = grind arith

@@ -1,5 +1,6 @@
 -- `pvrtc::check::is_outside` meets its contract, call by call. Assumes nothing.
-use borrow.Author.Tests.{le-leb, lt-leb}
+use Rattle.std.proofs.Common.{le-leb}
+use borrow.Author.Tests.{lt-leb}
 use Rattle.pvrtc.specs.Refusals.{outside}
 use Rattle.pvrtc.proofs.check.is_outside.Goals as goal
 

@@ -1,5 +1,5 @@
 -- `pvrtc::plain::applicate_color` meets its contract. The loop keeps that the first i texels are in the buffer. Assumes nothing.
-use Rattle.std.proofs.Common.{◌≡◌, ◌∙◌, ◌*◌, arith}
+use Rattle.std.proofs.Common.{◌≡◌, ◌*◌, ◌∙◌, arith}
 use Rattle.facts.proofs.Tab.{filled_none, filled_more}
 use Rattle.texel.proofs.Shares.{half_high}
 use Rattle.pvrtc.specs.Inner.{block_texel, block_words}

@@ -1,5 +1,5 @@
 -- `pvrtc::plain::decode_block_row` meets its contract. The loop keeps that the first bx blocks of the row are laid. Assumes nothing.
-use Prim.Native.Nat.{◌+◌, ◌-◌, ◌*◌, ◌≤◌}
+use Rattle.std.proofs.Common.{◌+◌, ◌-◌, ◌*◌, ◌≤◌}
 use Rattle.grid.specs.Grid.{block_width}
 use Rattle.paint.proofs.Sheets.{BlocksLaid}
 use Rattle.texel.specs.Texel.{grid_texel}

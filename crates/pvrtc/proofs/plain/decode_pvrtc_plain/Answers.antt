@@ -1,13 +1,8 @@
 -- `pvrtc::plain::decode_pvrtc_plain` meets its contract. The loop keeps that the first rows of blocks are laid. Assumes nothing.
 use Rattle.std.proofs.Common.{sym, arith}
-use Rattle.facts.proofs.Said.{at_exit}
-use Rattle.pvrtc.proofs.InPicture.{Going, none-laid, row-asked, row-ready, row_laid, all_laid}
-use Rattle.pvrtc.proofs.Unique.{by-words, by-none}
+use Rattle.pvrtc.proofs.InPicture.{Going, none-laid, row-asked, row-ready, row_laid}
 use Rattle.pvrtc.proofs.plain.decode_pvrtc_plain.Goals as goal
 use Rattle.pvrtc.proofs.plain.decode_pvrtc_plain.Goals.{After-num_blocks_y-by-end}
-
-pub returns-in_err-check : goal.returns-in_err-check
-returns-in_err-check c = by-none (at_exit c.from_residual.ensures) c.in_err-check.ensures
 
 going : (c : After-num_blocks_y-by-end) → let a = c.args in
     Going a.p a.«data».now a.image.now c.grid_of-g.result c.sheet_of-s.result c.num_blocks_y-by-end.result
@@ -22,10 +17,6 @@ going c =
 pub loop-by-init : goal.loop-by-init
 loop-by-init c = (omega arith, none-laid (going (goal.at.loop-by-init c).After-num_blocks_y-by-end))
 
-pub overflow_mul-by : goal.overflow_mul-by
-overflow_mul-by c =
-    omega (arith, row-asked (going (goal.at.overflow_mul-by c).After-num_blocks_y-by-end) c.loop-by.by c.loop-by-test.true (omega arith))
-
 pub rows_from-requires : goal.rows_from-requires
 rows_from-requires c = row-asked (going (goal.at.rows_from-requires c).After-num_blocks_y-by-end) c.loop-by.by c.loop-by-test.true (omega arith)
 
@@ -34,12 +25,6 @@ decode_block_row-requires c =
     let l = c.loop-by in
     row-ready (going (goal.at.decode_block_row-requires c).After-num_blocks_y-by-end) l.by c.loop-by-test.true c.rows_from.ensures l.invariant.1.len
 
-pub overflow_step-by : goal.overflow_step-by
-overflow_step-by c = omega (arith, c.loop-by-test.true)
-
-pub loop-by-smaller : goal.loop-by-smaller
-loop-by-smaller c = omega (arith, c.loop-by-test.true)
-
 pub loop-by-preserved : goal.loop-by-preserved
 loop-by-preserved c =
     let l = c.loop-by in
@@ -47,12 +32,3 @@ loop-by-preserved c =
       omega (arith, c.loop-by-test.true),
       row_laid (going (goal.at.loop-by-preserved c).After-num_blocks_y-by-end) l.by c.loop-by-test.true row l.invariant.1 c.decode_block_row.ensures,
     )
-
-pub shape_of-image : goal.shape_of-image
-shape_of-image c = c.loop-by.invariant.1.len
-
-pub returns : goal.returns
-returns c =
-    let k = going (goal.at.returns c).After-num_blocks_y-by-end in
-    let l = c.loop-by in
-    by-words k.told (all_laid k l.by (omega (arith, l.invariant.0, c.loop-by-test.false)) l.invariant.1)

@@ -5,7 +5,7 @@ use Rattle.texel.specs.Texel.{grid_texel}
 use Rattle.pvrtc.proofs.plain.decode_pvrtc_plain.Given as goal
 
 abbrev pub invariant-loop-by : goal.invariant-loop-by
-invariant-loop-by l = (l.by ≤ l.by-end) × RowsLaid l.s 4 (grid_texel l.p.order l.g l.data) l.initial.image l.by l.image
+invariant-loop-by l = (l.by ≤ l.by-end) × RowsLaid l.s 4 (grid_texel l.fn.p.order l.g l.data) l.initial.image l.by l.image
 
 abbrev pub decreases-loop-by : goal.decreases-loop-by
 decreases-loop-by l = l.by-end - l.by

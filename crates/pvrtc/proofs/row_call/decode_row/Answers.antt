@@ -1,7 +1,6 @@
 -- `pvrtc::row_call::decode_row` meets its contract. The loop keeps that the first x words are the row's texels, and what `InRow` says is held;
 -- it has too that no texel is refused. Assumes nothing.
-use Rattle.std.proofs.Common.{◌≡◌, refl, sym, ap, ap₂, ◌∙◌, ℕ, ◌/◌, ◌%◌, ◌≤◌, ◌<◌, length, arith}
-use Rattle.facts.proofs.Said.{at_exit}
+use Rattle.std.proofs.Common.{◌≡◌, ℕ, ◌/◌, ◌%◌, ◌<◌, ◌≤◌, length, sym, refl, ap, ◌∙◌, ap₂, arith}
 use Rattle.grid.specs.declared.Grid.{Grid}
 use Rattle.grid.specs.Grid.{block_width}
 use Rattle.grid.specs.Words.{Stands, InGrid}
@@ -11,7 +10,7 @@ use Rattle.paint.specs.Paint.{painted}
 use Rattle.pvrtc.proofs.Accepted.{Accepted, accepted, stands, stands-as, block_in, block-as, row_inside, row-roomy, width_small, width_above}
 use Rattle.pvrtc.proofs.InRow.{not-refused, its-word, next_word, Held, held_none, held_first, held-later, held-picture, held_next}
 use Rattle.pvrtc.proofs.InRow.{slides, slides-read}
-use Rattle.pvrtc.proofs.Unique.{by-words, by-none}
+use Rattle.pvrtc.proofs.Unique.{by-words}
 use Rattle.texel.proofs.Shares.{half_high}
 use Rattle.texel.specs.Summed.{with_texels}
 use Rattle.pvrtc.specs.Calls.{refusal}
@@ -22,9 +21,6 @@ use Rattle.pvrtc.proofs.row_call.decode_row.Goals.{At-loop-x, In_ok-check, Joine
 
 abbrev grid_at : At-loop-x → Grid
 grid_at l = l.grid_of-g.result
-
-pub returns-in_err-check : goal.returns-in_err-check
-returns-in_err-check c = by-none (at_exit c.from_residual.ensures) c.in_err-check.ensures
 
 -- past the checks the call is accepted
 told : (c : In_ok-check) → let a = c.args in
@@ -45,10 +41,7 @@ first_words-nine-requires c =
     let some = some-across (stands ok) in
     let row = (block_in ok 0 a.y (width_above a.p ok.sides) (row_inside a.p a.y (length a.row.now) ok.inside)).down in
     let grid = c.grid_of-g.ensures in
-    record {
-      table_value = (c.spread_table-table.ensures, stands-as ok grid);
-      in_grid = (rw grid (record { across = omega arith; down = row }), omega arith);
-    }
+    (stands-as ok grid, rw grid (record { across = omega arith; down = row }), omega arith)
 
 pub loop-x-init : goal.loop-x-init
 loop-x-init c =
@@ -75,10 +68,7 @@ block_at l h =
 pub next_words-nine-requires : goal.next_words-nine-requires
 next_words-nine-requires c =
     let l = (goal.at.next_words-nine-requires c).At-loop-x in
-    record {
-      table_value = (c.spread_table-table.ensures, stands_at l);
-      in_grid = (rw c.block_width-width.ensures (block_at l c.loop-x-test.true), omega arith);
-    }
+    (stands_at l, rw c.block_width-width.ensures (block_at l c.loop-x-test.true), omega arith)
 
 pub texels_in-requires : goal.texels_in-requires
 texels_in-requires c =
@@ -143,12 +133,6 @@ offset_bounds-row-x c = omega (arith, narrow (goal.at.offset_bounds-row-x c).At-
 pub bounds-row-x : goal.bounds-row-x
 bounds-row-x c = omega (arith, narrow (goal.at.bounds-row-x c).At-loop-x, c.loop-x.invariant.2.len, c.loop-x-test.true)
 
-pub overflow_step-x : goal.overflow_step-x
-overflow_step-x c = omega (arith, narrow (goal.at.overflow_step-x c).At-loop-x, c.loop-x-test.true)
-
-pub loop-x-smaller : goal.loop-x-smaller
-loop-x-smaller c = omega (arith, c.loop-x-test.true)
-
 pub loop-x-preserved : goal.loop-x-preserved
 loop-x-preserved c =
     let at = goal.at.loop-x-preserved c in
@@ -163,9 +147,6 @@ loop-x-preserved c =
       next_word inv.2 its taken (omega (arith, narrow l, taken)),
       held_next a.p.order c.grid_of-g.result d a.y c.loop-x.x (held at.Joined-x-width-eq0 (block_at l taken).across),
     )
-
-pub shape_of-row : goal.shape_of-row
-shape_of-row c = c.loop-x.invariant.2.len
 
 pub returns : goal.returns
 returns c =
