@@ -13,10 +13,8 @@ fn decode_sized(data: &[u8], p: Picture, size: u32, image: &mut [u32]) -> Result
     ensures { SizedDecoded p size «data».now image.old image.new result }
 {
     pvrtc::check_sizes(p)?;
-    refuse_if(
-        size as usize != grid::need_of(pvrtc::grid_of(p)),
-        Refusal::OtherSize,
-    )?;
+    let need = grid::need_of(pvrtc::grid_of(p));
+    refuse_if(size as usize != need, Refusal::OtherSize)?;
     pvrtc::decode_picture(data, p, image)?;
     Ok(())
 }

@@ -12,8 +12,8 @@ returns-in_err-check_sizes c =
     unwritten a.p a.size a.«data».now a.image.now (at_exit c.from_residual.ensures)
     (by-sizes a.p a.size a.«data».now a.image.now _ c.in_err-check_sizes.ensures)
 
-pub need_of-requires : goal.need_of-requires
-need_of-requires c =
+pub need_of-need-requires : goal.need_of-need-requires
+need_of-need-requires c =
     let a = c.args in
     let small = not-large a.p a.size a.«data».now a.image.now c.in_ok-check_sizes.ensures in
     rw c.grid_of.ensures (few-across a.p small, few-down a.p small)
@@ -22,17 +22,17 @@ pub returns-in_err-refuse_if : goal.returns-in_err-refuse_if
 returns-in_err-refuse_if c =
     let a = c.args in
     unwritten a.p a.size a.«data».now a.image.now (at_exit c.from_residual-in_err-refuse_if.ensures)
-    (by-other a.p a.size a.«data».now a.image.now c.in_ok-check_sizes.ensures (c.need_of.ensures ∙ ap word_bytes c.grid_of.ensures)
+    (by-other a.p a.size a.«data».now a.image.now c.in_ok-check_sizes.ensures (c.need_of-need.ensures ∙ ap word_bytes c.grid_of.ensures)
     _ c.in_err-refuse_if.ensures)
 
 pub returns-in_err-decode_picture : goal.returns-in_err-decode_picture
 returns-in_err-decode_picture c =
     let a = c.args in
-    by_call a.p a.size a.«data».now a.image.now c.in_ok-check_sizes.ensures (c.need_of.ensures ∙ ap word_bytes c.grid_of.ensures)
+    by_call a.p a.size a.«data».now a.image.now c.in_ok-check_sizes.ensures (c.need_of-need.ensures ∙ ap word_bytes c.grid_of.ensures)
     c.in_ok-refuse_if.ensures (at_exit c.from_residual-in_err-decode_picture.ensures) c.in_err-decode_picture.ensures
 
 pub returns : goal.returns
 returns c =
     let a = c.args in
-    by_call a.p a.size a.«data».now a.image.now c.in_ok-check_sizes.ensures (c.need_of.ensures ∙ ap word_bytes c.grid_of.ensures)
+    by_call a.p a.size a.«data».now a.image.now c.in_ok-check_sizes.ensures (c.need_of-need.ensures ∙ ap word_bytes c.grid_of.ensures)
     c.in_ok-refuse_if.ensures refl c.in_ok-decode_picture.ensures
