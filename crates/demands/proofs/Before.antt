@@ -9,7 +9,6 @@ use lib.ListN.{length}
 use Rattle.facts.specs.Checks.{Check, first_of, numbered}
 use Rattle.facts.proofs.Checks.{first-append, numbered-append}
 use Rattle.facts.proofs.Lists.{choice}
-use Rattle.files.specs.declared.Reading.TheVariants.{Plate, Refused}
 use Rattle.pvr.specs.Header.{header_checks, HeaderAnswered}
 use Rattle.pvr.specs.Reading.{pvr_plate, pvr_says}
 use Rattle.ktx.specs.Header.{is_ktx}
@@ -119,7 +118,8 @@ module _ (head : List Check) (file : List ℕ) (t : T (numbered head)) (e : firs
   answered-by =
       record {
         header = λ r. both_ways (λ n. HeaderAnswered n file r) e;
-        reading = ap (λ (n : ℕ). cond (eqb n 0) (Plate (pvr_plate file)) (Refused n)) e;
+        reading = λ r.
+            (λ a. record { refusal = a.refusal ∙ e; plate = a.plate }, λ b. record { refusal = b.refusal ∙ sym e; plate = b.plate });
         c-field = λ k. rw e refl;
         program = ap (λ (n : ℕ). written n (plate_of file) (level_data file)) program-same;
         laid = laid;

@@ -66,7 +66,7 @@ module _ (file : List ℕ) where
       let head = flags-stop file in
       record {
         header = λ r p. subst (λ n. StopsFlags (unknown_flags file) n (any_flags_refusal file)) (sym p.number) head;
-        reading = λ n e. subst (λ m. StopsFlags (unknown_flags file) m (any_flags_refusal file)) (of_number (pvr_says file) (sym e)).0 head;
+        reading = λ f a. subst (λ m. StopsFlags (unknown_flags file) m (any_flags_refusal file)) (of_number a) head;
         c-number = head;
         program = program;
         description = λ k r p. subst (λ n. StopsFlags (has_unknown_flags file) n (level_refusal_by before file k)) (sym p.number) (description k);

@@ -1,4 +1,5 @@
 -- Demand 1, against idle versions: the texels that each would get wrong are computed. Assumes nothing.
+use Rattle.std.proofs.Common.{Ok}
 use mathlib.Core.Path.{◌≡◌, refl, ap, ◌∙◌}
 use mathlib.Core.Bool.{Bool, true, false}
 use mathlib.Core.List.{List}
@@ -20,7 +21,6 @@ use Rattle.pvrtc.specs.Calls.{refusal, RowDecoded, BlockDecoded}
 use Rattle.pvrtc.specs.Picture.{side_in, picture_texel}
 use Rattle.pvrtc.specs.Refusals.{short_image, outside}
 use Rattle.pvrtc.specs.declared.Call.TheVariants as call
-use Rattle.pvrtc.specs.declared.Decoded.TheVariants.{Done}
 use Rattle.pvrtc.specs.declared.GridMode.{GridMode}
 use Rattle.pvrtc.specs.declared.GridMode.TheVariants.{Rust, Stored}
 use Rattle.pvrtc.proofs.Agree.{row_is, block-is}
@@ -76,25 +76,25 @@ shades false Stored RedFirst = record { red = refl; black = refl; upper = refl; 
 
 -- where they stand in a row and in the two pictures
 module _ (two : Bool) (mode : GridMode) (order : ChannelOrder) (s : Shades two mode order) {old new : List ℕ} (low : 2 ≤ half two) where
-  row-red : RowDecoded (beside2 two mode order) red_corner 2 old new Done → get_or new (half two) 0 ≡ red_word order
+  row-red : RowDecoded (beside2 two mode order) red_corner 2 old new (Ok tt) → get_or new (half two) 0 ≡ red_word order
   row-red w = row_is (beside2 two mode order) red_corner (half two) 2 (omega arith) w ∙ s.red
 
-  row-black : RowDecoded (beside2 two mode order) red_corner 2 old new Done → get_or new (3 * half two) 0 ≡ 0xFF000000
+  row-black : RowDecoded (beside2 two mode order) red_corner 2 old new (Ok tt) → get_or new (3 * half two) 0 ≡ 0xFF000000
   row-black w = row_is (beside2 two mode order) red_corner (3 * half two) 2 (omega arith) w ∙ s.black
 
-  block-red : BlockDecoded (beside2 two mode order) red_corner old new Done → get_or new (2 * (2 * block_width two) + half two) 0 ≡ red_word order
+  block-red : BlockDecoded (beside2 two mode order) red_corner old new (Ok tt) → get_or new (2 * (2 * block_width two) + half two) 0 ≡ red_word order
   block-red w = block-is (beside2 two mode order) red_corner (half two) 2 (omega arith) (omega arith) w ∙ s.red
 
-  block-black : BlockDecoded (beside2 two mode order) red_corner old new Done → get_or new (2 * (2 * block_width two) + 3 * half two) 0 ≡ 0xFF000000
+  block-black : BlockDecoded (beside2 two mode order) red_corner old new (Ok tt) → get_or new (2 * (2 * block_width two) + 3 * half two) 0 ≡ 0xFF000000
   block-black w = block-is (beside2 two mode order) red_corner (3 * half two) 2 (omega arith) (omega arith) w ∙ s.black
 
-  upper-red : BlockDecoded (below2 two mode order) red_corner old new Done → get_or new (2 * block_width two + half two) 0 ≡ red_word order
+  upper-red : BlockDecoded (below2 two mode order) red_corner old new (Ok tt) → get_or new (2 * block_width two + half two) 0 ≡ red_word order
   upper-red w = block-is (below2 two mode order) red_corner (half two) 2 (omega arith) (omega arith) w ∙ s.upper
 
-  lower-black : BlockDecoded (below2 two mode order) red_corner old new Done → get_or new (6 * block_width two + half two) 0 ≡ 0xFF000000
+  lower-black : BlockDecoded (below2 two mode order) red_corner old new (Ok tt) → get_or new (6 * block_width two + half two) 0 ≡ 0xFF000000
   lower-black w = block-is (below2 two mode order) red_corner (half two) 6 (omega arith) (omega arith) w ∙ s.lower
 
-  edge-half : BlockDecoded (below2 two mode order) red_corner old new Done → get_or new (half two) 0 ≡ half_red order
+  edge-half : BlockDecoded (below2 two mode order) red_corner old new (Ok tt) → get_or new (half two) 0 ≡ half_red order
   edge-half w =
       let front : half two ≡ 0 * block_width two + half two = omega arith in
       ap (λ (k : ℕ). get_or new k 0) front ∙ block-is (below2 two mode order) red_corner (half two) 0 (omega arith) (omega arith) w ∙ s.between

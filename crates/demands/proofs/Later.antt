@@ -1,4 +1,5 @@
 -- What follows level 0 of a KTX file has no effect on its picture, nor on what C is told of it. Assumes nothing.
+use Rattle.std.proofs.Common.{Result}
 use mathlib.Core.Path.{◌≡◌, refl, sym, ap, ap₂, ◌∙◌}
 use mathlib.Core.Bool.{false, cond}
 use mathlib.Core.List.{List, ◌++◌}
@@ -24,11 +25,11 @@ use Rattle.pvrtc.proofs.Past.{picture-past}
 use Rattle.ktx.specs.Header.{size_word_of, payload_offset, header_checks}
 use Rattle.ktx.specs.NoEffect.{SameHeader}
 use Rattle.ktx.specs.Picture.{plate_of, level_data, sized_checks, picture_refusal, KtxDecoded}
-use Rattle.ktx.specs.declared.Decoded.{Decoded}
 use Rattle.ktx.proofs.NoEffect.{header-before, same_number, same-picture, same-payload, sized-alike, words-alike}
 use Rattle.ktx.proofs.Whole.{call-decides, header-accepted, size_fits}
 use Rattle.capi.specs.Ktx.{WroteKtx}
 use Rattle.demands.proofs.Past.{chosen}
+use Rattle.ktx.specs.declared.Refusal.{Refusal as KtxRefusal}
 
 module _ (file more : List ℕ) (enough : payload_offset file + need (plate_of file) ≤ length file) where
   abbrev p : Picture
@@ -81,7 +82,7 @@ module _ (file more : List ℕ) (enough : payload_offset file + need (plate_of f
       (λ none. painted_same 0 w w p.height _ _ old (omega arith) (λ x y _ _. texel order (length old) none x y))
       ∙ sym (words-alike old (number (length old)) (ap (in_order order) (same-picture header)) data-more)
 
-  pub picture-unread : (order : ChannelOrder) (old new : List ℕ) (r : Decoded) → KtxDecoded order file old new r ↔ KtxDecoded order (file ++ more) old new r
+  pub picture-unread : (order : ChannelOrder) (old new : List ℕ) (r : Result (Unit {0}) KtxRefusal) → KtxDecoded order file old new r ↔ KtxDecoded order (file ++ more) old new r
   picture-unread order old new r =
       let n = number (length old) in (
         λ a. record { number = a.number ∙ sym n; words = a.words ∙ words order old },

@@ -1,4 +1,5 @@
 -- The levels of a file beside one another, and level 0 beside the plate. Assumes nothing.
+use Rattle.std.proofs.Common.{Ok}
 use mathlib.Core.Path.{◌≡◌, refl, sym, ap, subst, ◌∙◌}
 use mathlib.Core.Bool.{Bool, true, false, cond, not, ◌&&◌, false≢true}
 use mathlib.Core.List.{List, [], ◌∷◌, ◌++◌}
@@ -23,7 +24,6 @@ use Rattle.ktx.specs.Header as ktx
 use Rattle.ktx.specs.Header.{ktx_bytes, is_ktx}
 use Rattle.ktx.specs.Picture as ktx-picture
 use Rattle.ktx.specs.Picture.{KtxDecoded}
-use Rattle.ktx.specs.declared.Decoded.TheVariants.{Done as KtxDone}
 use Rattle.ktx.proofs.Whole.{header-accepted}
 use Rattle.levels.specs.Calls.{LevelDecoded}
 use Rattle.levels.specs.Levels.{levels_in, plate_in, picture_of, size_word_bytes, start_at, level_data}
@@ -31,7 +31,6 @@ use Rattle.levels.specs.Inner.{Walks}
 use Rattle.levels.specs.Ranges.{end_at, Reckoned}
 use Rattle.levels.specs.Refusals.{header_checks, most_levels, too_many_levels, no_such_level, count_checks, size_word_checks, own_checks}
 use Rattle.levels.specs.Refusals.{level_refusal, decode_refusal}
-use Rattle.levels.specs.declared.Decoded.TheVariants.{Done}
 use Rattle.levels.specs.declared.Levels.{Levels}
 use Rattle.levels.proofs.Answers.{numbered-header}
 use Rattle.levels.proofs.Halving.{halving}
@@ -101,7 +100,7 @@ module _ (f g : List ℕ) (j z : ℕ) (s : DamagedAt (start_at (levels_in f) j) 
     λ order. only-near (in_order order (picture_of f j)) (level_data f j) (level_data g j) z others_same,
   )
 
-  few : (order : ChannelOrder) (old new old' new' : List ℕ) → LevelDecoded order f j old new Done → LevelDecoded order g j old' new' Done
+  few : (order : ChannelOrder) (old new old' new' : List ℕ) → LevelDecoded order f j old new (Ok tt) → LevelDecoded order g j old' new' (Ok tt)
       → changed (picture_of f j) new new' ≤ most_touched (picture_of f j).is2bpp
   few order old new old' new' a b =
       let fb = as-block f j a in
@@ -206,7 +205,7 @@ module _ (file : List ℕ) where
   plate-data : level_data file 0 ≡ program.level_data file
   plate-data = ap (λ (n : ℕ). drop n file) plate-start
 
-  same-as-ktx : (order : ChannelOrder) (old new new' : List ℕ) → LevelDecoded order file 0 old new Done → KtxDecoded order file old new' KtxDone
+  same-as-ktx : (order : ChannelOrder) (old new new' : List ℕ) → LevelDecoded order file 0 old new (Ok tt) → KtxDecoded order file old new' (Ok tt)
       → new ≡ new'
   same-as-ktx order old new new' a b =
       let e = taken-as-ktx file (header-accepted file (length old) (sym b.number)) in

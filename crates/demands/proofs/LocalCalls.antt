@@ -1,4 +1,5 @@
 -- Demand 3 over every call: for each picture whose sizes are accepted. Assumes nothing.
+use Rattle.std.proofs.Common.{Ok}
 use mathlib.Core.Path.{◌≡◌, refl, sym, ap, ap₂, ◌∙◌}
 use mathlib.Core.Bool.{Bool, true, false, not, false≢true}
 use mathlib.Core.List.Memᴰ
@@ -19,7 +20,6 @@ use Rattle.pvrtc.specs.Calls.{refusal, BlockDecoded}
 use Rattle.pvrtc.specs.Picture.{grid_of, picture_texel}
 use Rattle.pvrtc.specs.Refusals.{need, zero_side, large_side, short_image, not_power, outside}
 use Rattle.pvrtc.specs.declared.Call.{Call}
-use Rattle.pvrtc.specs.declared.Decoded.TheVariants.{Done}
 use Rattle.pvrtc.specs.declared.Picture.{Picture}
 use Rattle.pvrtc.proofs.Accepted.{accepted, passed, power-across, power-down, covers-across, covers_down}
 use Rattle.pvrtc.proofs.Agree.{word-is}
@@ -70,7 +70,7 @@ module _ (p : Picture) (sides : zero_side p ≡ false) (small : large_side p ≡
 
   -- and so has a word that does
   no_more : (z : ℕ) (d d' old new old' new' : List ℕ) → SameOutside (blocks_of p) d d' z
-      → BlockDecoded p d old new Done → BlockDecoded p d' old' new' Done → changed p new new' ≤ touched_by p z
+      → BlockDecoded p d old new (Ok tt) → BlockDecoded p d' old' new' (Ok tt) → changed p new new' ≤ touched_by p z
   no_more z d d' old new old' new' same a b =
       let words : changed p new new' ≡ count (texels_differ p d d') (p.width * p.height) =
       count_same _ _ (p.width * p.height) (λ k l. ap₂ (λ (v w : ℕ). not (eqb v w)) (word-is p d a k l) (word-is p d' b k l)) in
@@ -103,7 +103,7 @@ module _ (p : Picture) (sides : zero_side p ≡ false) (small : large_side p ≡
           (record { sides = sides; small = small; enough = le-ltb (length d) (need p) (omega arith); roomy = roomy; powers = powers; inside = inside })
 
       -- a word differs exactly where z is in the footprint
-      tells : {old new old' new' : List ℕ} → BlockDecoded p t.one old new Done → BlockDecoded p t.other old' new' Done
+      tells : {old new old' new' : List ℕ} → BlockDecoded p t.one old new (Ok tt) → BlockDecoded p t.other old' new' (Ok tt)
           → (k : ℕ) → k < p.width * p.height → (has : Bool) → drawn z k ≡ has → not (eqb (get_or new k 0) (get_or new' k 0)) ≡ drawn z k
       tells a b k l true q =
           ap not (ne_eqb _ _ (λ e. t.differ _ _ (is-in z _ q) (sym (word-is p t.one a k l) ∙ e ∙ word-is p t.other b k l))) ∙ sym q

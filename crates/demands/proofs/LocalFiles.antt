@@ -1,4 +1,5 @@
 -- Demand 3 over files: a damaged file has the same header, and data that differs in one block alone. Assumes nothing.
+use Rattle.std.proofs.Common.{Ok}
 use mathlib.Core.Path.{◌≡◌, refl, sym, ap, ap₂, subst, ◌∙◌}
 use mathlib.Core.Bool.{Bool, true, false, not}
 use mathlib.Core.List.{List}
@@ -21,7 +22,6 @@ use Rattle.ktx.specs.Header.{ktx_bytes, is_ktx, size_place, payload_offset}
 use Rattle.ktx.specs.NoEffect.{SameHeader}
 use Rattle.ktx.specs.Picture as ktx
 use Rattle.ktx.specs.Picture.{picture_refusal, KtxDecoded}
-use Rattle.ktx.specs.declared.Decoded.TheVariants.{Done}
 use Rattle.ktx.proofs.NoEffect as ktx-same
 use Rattle.pixel.specs.declared.ChannelOrder.{ChannelOrder}
 use Rattle.pvrtc.specs.Picture.{in_order}
@@ -84,7 +84,7 @@ module _ (f g : List ℕ) (z : ℕ) (s : DamagedAt (payload_offset f) f g z) whe
     λ order. only-near (in_order order (ktx.plate_of f)) (ktx.level_data f) (ktx.level_data g) z ktx-others,
   )
 
-  ktx-few : (order : ChannelOrder) (old new old' new' : List ℕ) → KtxDecoded order f old new Done → KtxDecoded order g old' new' Done
+  ktx-few : (order : ChannelOrder) (old new old' new' : List ℕ) → KtxDecoded order f old new (Ok tt) → KtxDecoded order g old' new' (Ok tt)
       → changed (ktx.plate_of f) new new' ≤ most_touched (ktx.plate_of f).is2bpp
   ktx-few order old new old' new' a b =
       let fb = decoded-block f a in

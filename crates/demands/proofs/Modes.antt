@@ -1,4 +1,5 @@
 -- Where both grids are equal the modes agree, call by call; and the red corner tells them apart. Assumes nothing.
+use Rattle.std.proofs.Common.{Ok}
 use mathlib.Core.Path.{◌≡◌, refl, sym, ap, ap₂, ◌∙◌}
 use mathlib.Core.Bool.{cond}
 use mathlib.Core.List.{List, [], ◌∷◌}
@@ -24,7 +25,6 @@ use Rattle.pvrtc.specs.Picture.{in_order, across, down, side_in, grid_of, pictur
 use Rattle.pvrtc.specs.Refusals.{short_image, outside}
 use Rattle.pvrtc.specs.declared.Call.{Call}
 use Rattle.pvrtc.specs.declared.Call.TheVariants as call
-use Rattle.pvrtc.specs.declared.Decoded.TheVariants.{Done}
 use Rattle.pvrtc.specs.declared.GridMode.{GridMode}
 use Rattle.pvrtc.specs.declared.GridMode.TheVariants.{Rust, Stored}
 use Rattle.pvrtc.specs.declared.Picture.{Picture}
@@ -136,7 +136,7 @@ pub one-grid-one-answer : OneGridOneAnswer
 one-grid-one-answer =
     record {
       calls = agree;
-      ktx = λ order file old new e a. ((agree (in_order order (ktx.plate_of file)) (ktx.level_data file) e).block old new Done).1 (decoded-block file a);
+      ktx = λ order file old new e a. ((agree (in_order order (ktx.plate_of file)) (ktx.level_data file) e).block old new (Ok tt)).1 (decoded-block file a);
       program = λ file e ok. is-tga file ok ∙ ap (λ (f : ℕ → ℕ → ℕ). tga_by (plate_of file) f) (sym (texel (plate_of file) (level_data file) e));
     }
 
@@ -156,7 +156,7 @@ corner p d x y v w a b =
 abbrev ruby_reds : GridMode → List ℕ
 ruby_reds mode = tab (λ x. picture_texel (ruby mode) red_corner x 0 / 65536 % 256) 4
 
-reds-are : (mode : GridMode) {new : List ℕ} → RowDecoded (ruby mode) red_corner 0 four_lent new Done → reds new ≡ ruby_reds mode
+reds-are : (mode : GridMode) {new : List ℕ} → RowDecoded (ruby mode) red_corner 0 four_lent new (Ok tt) → reds new ≡ ruby_reds mode
 reds-are mode w = tab-same _ _ 4 (λ x l. ap (λ (v : ℕ). v / 65536 % 256) (row_is (ruby mode) red_corner x 0 l w))
 
 computed : (ruby_reds Rust ≡ 255 ∷ 255 ∷ 255 ∷ 255 ∷ []) × (ruby_reds Stored ≡ 63 ∷ 95 ∷ 127 ∷ 95 ∷ [])

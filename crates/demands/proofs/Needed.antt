@@ -1,4 +1,5 @@
 -- A call depends on the bytes that its picture needs, and on no later ones: two runs that agree in them have the same outcomes. Assumes nothing.
+use Rattle.std.proofs.Common.{Result}
 use mathlib.Core.Path.{◌≡◌, refl, sym, ap, subst, ◌∙◌}
 use mathlib.Core.List.{List, ◌++◌}
 use Prim.Native.Nat.{ℕ, ◌≤◌, ◌<◌}
@@ -9,11 +10,11 @@ use Rattle.pvrtc.specs.Calls.{refusal, BlockDecoded}
 use Rattle.pvrtc.specs.Picture.{picture_texel}
 use Rattle.pvrtc.specs.Refusals.{need}
 use Rattle.pvrtc.specs.declared.Call.{Call}
-use Rattle.pvrtc.specs.declared.Decoded.{Decoded}
 use Rattle.pvrtc.specs.declared.Picture.{Picture}
 use Rattle.pvrtc.proofs.Past.{refusal-past, picture-past}
 use Rattle.demands.proofs.Past.{nothing-past}
 use Rattle.demands.proofs.Seen.{moved-block}
+use Rattle.pvrtc.specs.declared.Refusal.{Refusal}
 
 -- a call on a run is the call on its needed bytes
 module _ (p : Picture) (d : List ℕ) (h : need p ≤ length d) where
@@ -31,11 +32,11 @@ module _ (p : Picture) (d : List ℕ) (h : need p ≤ length d) where
       sym (ap (λ (l : List ℕ). picture_texel p l x y) whole)
       ∙ picture-past p (take (need p) d) (drop (need p) d) enough c (sym (refusal-front c) ∙ ok) x y
 
-  to_front : {old new : List ℕ} {r : Decoded} → BlockDecoded p d old new r → BlockDecoded p (take (need p) d) old new r
+  to_front : {old new : List ℕ} {r : Result (Unit {0}) Refusal} → BlockDecoded p d old new r → BlockDecoded p (take (need p) d) old new r
   to_front {old} {new} {r} b =
       ((nothing-past p (take (need p) d) (drop (need p) d) enough).block old new r).1 (subst (λ (l : List ℕ). BlockDecoded p l old new r) (sym whole) b)
 
-  from_front : {old new : List ℕ} {r : Decoded} → BlockDecoded p (take (need p) d) old new r → BlockDecoded p d old new r
+  from_front : {old new : List ℕ} {r : Result (Unit {0}) Refusal} → BlockDecoded p (take (need p) d) old new r → BlockDecoded p d old new r
   from_front {old} {new} {r} b =
       subst (λ (l : List ℕ). BlockDecoded p l old new r) whole (((nothing-past p (take (need p) d) (drop (need p) d) enough).block old new r).0 b)
 
@@ -51,7 +52,7 @@ module _ (p : Picture) (d e : List ℕ) (hd : need p ≤ length d) (he : need p 
       (λ i l. let h : i < need p = omega (arith, size d hd) in get_or-take (need p) d i 0 h ∙ same i h ∙ sym (get_or-take (need p) e i 0 h))
 
   -- in what the block call does
-  pub block-there : {old new : List ℕ} {r : Decoded} → BlockDecoded p d old new r → BlockDecoded p e old new r
+  pub block-there : {old new : List ℕ} {r : Result (Unit {0}) Refusal} → BlockDecoded p d old new r → BlockDecoded p e old new r
   block-there b = from_front p e he (moved-block {p = p} refl fronts (to_front p d hd b))
 
   -- and in each texel, where a call is accepted

@@ -1,4 +1,5 @@
 -- Data past the need has no effect on an outcome, and what C calls has the calls' outcomes. Assumes nothing.
+use Rattle.std.proofs.Common.{Result}
 use mathlib.Core.Path.{◌≡◌, refl, sym, ap, ◌∙◌}
 use mathlib.Core.Bool.{Bool, true, false, cond}
 use mathlib.Core.List.{List, ◌++◌}
@@ -15,11 +16,10 @@ use Rattle.pvrtc.specs.Picture.{picture_texel}
 use Rattle.pvrtc.specs.Refusals.{need}
 use Rattle.pvrtc.specs.declared.Call.{Call}
 use Rattle.pvrtc.specs.declared.Call.TheVariants as call
-use Rattle.pvrtc.specs.declared.Decoded.{Decoded}
 use Rattle.pvrtc.specs.declared.Picture.{Picture}
-use Rattle.pvrtc.specs.declared.Texel.{Texel}
 use Rattle.pvrtc.proofs.Past.{refusal-past, picture-past}
 use Rattle.demands.specs.Total.{PastUnread, NothingPast, SameInC}
+use Rattle.pvrtc.specs.declared.Refusal.{Refusal}
 
 -- the word that the texel call answers: 0 where it is refused
 abbrev pub texel_of : Picture → List ℕ → ℕ → ℕ → ℕ
@@ -34,13 +34,13 @@ chosen n a b c e = by (eqb n 0) refl
     by false q = refl
 
 -- what a texel call promises is met by the same answers where its number and its value are equal
-pub both_read : {p q : Picture} {d e : List ℕ} {x y : ℕ} {r : Texel} → refusal p (call.Texel x y) d ≡ refusal q (call.Texel x y) e
+pub both_read : {p q : Picture} {d e : List ℕ} {x y : ℕ} {r : Result ℕ Refusal} → refusal p (call.Texel x y) d ≡ refusal q (call.Texel x y) e
     → texel_of p d x y ≡ texel_of q e x y → TexelRead p d x y r ↔ TexelRead q e x y r
 both_read n v =
     (λ t. record { number = t.number ∙ n; value = t.value ∙ v }, λ t. record { number = t.number ∙ sym n; value = t.value ∙ sym v })
 
 -- and what a call that writes promises, where its number and its words are
-pub both-written : {n n' : ℕ} {done done' old new : List ℕ} {r : Decoded} → n ≡ n' → cond (eqb n 0) done old ≡ cond (eqb n' 0) done' old
+pub both-written : {n n' : ℕ} {done done' old new : List ℕ} {r : Result (Unit {0}) Refusal} → n ≡ n' → cond (eqb n 0) done old ≡ cond (eqb n' 0) done' old
     → Written n done old new r ↔ Written n' done' old new r
 both-written e q =
     (λ w. record { number = w.number ∙ e; words = w.words ∙ q }, λ w. record { number = w.number ∙ sym e; words = w.words ∙ sym q })

@@ -1,4 +1,5 @@
 -- A KTX plate decodes as the same payload does from PVR. Assumes nothing.
+use Rattle.std.proofs.Common.{Result}
 use mathlib.Core.Path.{◌≡◌, refl, sym, ap, subst, ◌∙◌}
 use mathlib.Core.Bool.{Bool, true, false, not}
 use mathlib.Core.List.{List, [], ◌∷◌}
@@ -22,7 +23,6 @@ use Rattle.pvrtc.specs.Calls.{BlockDecoded}
 use Rattle.pvrtc.specs.Picture.{in_order, picture_texel}
 use Rattle.pvrtc.specs.Refusals.{need, zero_side, short_data, grid_checks}
 use Rattle.pvrtc.specs.declared.Call.TheVariants.{Block}
-use Rattle.pvrtc.specs.declared.Decoded.{Decoded}
 use Rattle.pvrtc.specs.declared.Picture.{Picture}
 use Rattle.convert.specs.Output.{says_of, header_refusal, stored_in, picture_of, plate_of, level_data, long_skipped, long_side, large_need, other_size}
 use Rattle.convert.specs.Output.{skipped_limit, own_checks, program_refusal, refused_line, tga, output}
@@ -33,6 +33,7 @@ use Rattle.demands.specs.SamePlate.{SamePlate, SameAnswers}
 use Rattle.demands.proofs.Needed.{block-there, texel-there}
 use Rattle.demands.proofs.Program.{block-accepted, is-tga}
 use Rattle.demands.proofs.Seen.{moved-block}
+use Rattle.pvrtc.specs.declared.Refusal.{Refusal}
 
 -- what is still asked of a plate that skips little, is not cut, says no other size and has its data
 abbrev rest_checks : Picture → List Check
@@ -92,11 +93,11 @@ module _ {f g : List ℕ} (s : SamePlate f g) where
   same_number : program_refusal f ≡ program_refusal g
   same_number = f-number ∙ ap (λ (p : Picture). first_of (rest_checks p)) s.plate ∙ sym g-number
 
-  there : (order : ChannelOrder) {old new : List ℕ} {r : Decoded} → BlockDecoded (in_order order (plate_of f)) (level_data f) old new r
+  there : (order : ChannelOrder) {old new : List ℕ} {r : Result (Unit {0}) Refusal} → BlockDecoded (in_order order (plate_of f)) (level_data f) old new r
       → BlockDecoded (in_order order (plate_of f)) (level_data g) old new r
   there order = block-there (in_order order (plate_of f)) (level_data f) (level_data g) s.pvr-data s.ktx-data s.payload
 
-  back : (order : ChannelOrder) {old new : List ℕ} {r : Decoded} → BlockDecoded (in_order order (plate_of f)) (level_data g) old new r
+  back : (order : ChannelOrder) {old new : List ℕ} {r : Result (Unit {0}) Refusal} → BlockDecoded (in_order order (plate_of f)) (level_data g) old new r
       → BlockDecoded (in_order order (plate_of f)) (level_data f) old new r
   back order = block-there (in_order order (plate_of f)) (level_data g) (level_data f) s.ktx-data s.pvr-data (λ i h. sym (s.payload i h))
 

@@ -1,4 +1,5 @@
 -- Whatever call gives a word, it is the picture's texel, of a picture that the call accepted. Assumes nothing.
+use Rattle.std.proofs.Common.{Result, Ok}
 use mathlib.Core.Path.{◌≡◌, refl, sym, ap, ◌∙◌}
 use mathlib.Core.Bool.{cond}
 use mathlib.Core.List.{List}
@@ -9,22 +10,17 @@ use lib.ListN.{length, get_or}
 use Rattle.files.specs.Fields.{u32_at}
 use Rattle.ktx.specs.Picture as ktx
 use Rattle.ktx.specs.Picture.{KtxDecoded}
-use Rattle.ktx.specs.declared.Decoded.TheVariants as ktx-answer
 use Rattle.ktx.proofs.Whole.{header-accepted, size_fits, as-block}
 use Rattle.pixel.specs.declared.ChannelOrder.{ChannelOrder}
 use Rattle.pvrtc.specs.Calls.{refusal, TexelRead, Written, RowDecoded, BlockDecoded}
 use Rattle.pvrtc.specs.Picture.{in_order, picture_texel}
 use Rattle.pvrtc.specs.declared.Call.{Call}
 use Rattle.pvrtc.specs.declared.Call.TheVariants as call
-use Rattle.pvrtc.specs.declared.Decoded.{Decoded}
-use Rattle.pvrtc.specs.declared.Decoded.TheVariants.{Done}
 use Rattle.pvrtc.specs.declared.Picture.{Picture}
-use Rattle.pvrtc.specs.declared.Texel.TheVariants.{Word}
 use Rattle.pvrtc.proofs.Accepted.{Accepted, accepted, texel-inside, row_inside}
 use Rattle.pvrtc.proofs.Agree.{row_is, block-is}
 use Rattle.levels.specs.Calls.{LevelDecoded}
 use Rattle.levels.specs.Levels as level
-use Rattle.levels.specs.declared.Decoded.TheVariants as level-answer
 use Rattle.levels.proofs.Whole.{as-block as level-block}
 use Rattle.capi.specs.Plate.{texel_answer, Wrote}
 use Rattle.capi.proofs.Answers.{number-back, value-back}
@@ -32,6 +28,7 @@ use Rattle.convert.specs.Output.{plate_of, level_data, program_refusal, output}
 use Rattle.demands.specs.Right.{place_in, Gives, by-texel, by_row, by-block, by-c-texel, by-c-row, by-c-picture}
 use Rattle.demands.specs.Right.{by-ktx, by-c-ktx, by_level, by-c-level, by-program}
 use Rattle.demands.proofs.Program.{block-accepted, is-tga, tga-texel}
+use Rattle.pvrtc.specs.declared.Refusal.{Refusal}
 
 -- a texel of an accepted picture, and its word
 pub record Seen (p : Picture) (d : List ℕ) (x y v : ℕ) : Type 0 where
@@ -42,23 +39,23 @@ pub record Seen (p : Picture) (d : List ℕ) (x y v : ℕ) : Type 0 where
   pub is : v ≡ picture_texel p d x y
 
 -- what an answered word is
-pub answered : (p : Picture) (d : List ℕ) (x y v : ℕ) → TexelRead p d x y (Word v) → v ≡ picture_texel p d x y
+pub answered : (p : Picture) (d : List ℕ) (x y v : ℕ) → TexelRead p d x y (Ok v) → v ≡ picture_texel p d x y
 answered p d x y v t = t.value ∙ rw (sym t.number)
 
 -- what C is told where nothing is refused, the call was answered
-pub of-wrote : {n : ℕ} {done old new : List ℕ} → Wrote n done old new 0 → Written n done old new Done
+pub of-wrote : {n : ℕ} {done old new : List ℕ} → Wrote n done old new 0 → Written n done old new (Ok tt)
 of-wrote w = record { number = w.number; words = w.words }
 
 -- the picture and the data of a call may be replaced by equal ones
-pub moved-block : {p q : Picture} {d e old new : List ℕ} {r : Decoded} → p ≡ q → d ≡ e → BlockDecoded p d old new r → BlockDecoded q e old new r
+pub moved-block : {p q : Picture} {d e old new : List ℕ} {r : Result (Unit {0}) Refusal} → p ≡ q → d ≡ e → BlockDecoded p d old new r → BlockDecoded q e old new r
 moved-block ep ed b = rw (← ep, ← ed) b
 
 -- a decoded KTX file is the block call's picture of its data
-pub decoded-block : {order : ChannelOrder} (file : List ℕ) {old new : List ℕ} → KtxDecoded order file old new ktx-answer.Done
-    → BlockDecoded (in_order order (ktx.plate_of file)) (ktx.level_data file) old new Done
+pub decoded-block : {order : ChannelOrder} (file : List ℕ) {old new : List ℕ} → KtxDecoded order file old new (Ok tt)
+    → BlockDecoded (in_order order (ktx.plate_of file)) (ktx.level_data file) old new (Ok tt)
 decoded-block file {old} a =
     let none = sym a.number in
-    as-block file (header-accepted file (length old) none) (size_fits file (length old) none) Done a
+    as-block file (header-accepted file (length old) none) (size_fits file (length old) none) (Ok tt) a
 
 module _ (p : Picture) (d : List ℕ) (x y v : ℕ) where
   -- an accepted texel call
@@ -68,7 +65,7 @@ module _ (p : Picture) (d : List ℕ) (x y v : ℕ) where
       let at = texel-inside p x y ok.inside in
       record { call = call.Texel x y; ok = ok; across = at.0; down = at.1; is = q }
 
-  of_row : {old new : List ℕ} → RowDecoded p d y old new Done → x < p.width → v ≡ get_or new x 0 → Seen p d x y v
+  of_row : {old new : List ℕ} → RowDecoded p d y old new (Ok tt) → x < p.width → v ≡ get_or new x 0 → Seen p d x y v
   of_row {old} w hx q =
       let ok = accepted p (call.Row y (length old)) (length d) (sym w.number) in
       record {
@@ -79,7 +76,7 @@ module _ (p : Picture) (d : List ℕ) (x y v : ℕ) where
         is = q ∙ row_is p d x y hx w;
       }
 
-  of-block : {old new : List ℕ} → BlockDecoded p d old new Done → x < p.width → y < p.height → v ≡ get_or new (place_in p x y) 0 → Seen p d x y v
+  of-block : {old new : List ℕ} → BlockDecoded p d old new (Ok tt) → x < p.width → y < p.height → v ≡ get_or new (place_in p x y) 0 → Seen p d x y v
   of-block {old} w hx hy q =
       record {
         call = call.Block (length old);
@@ -97,13 +94,13 @@ module _ (p : Picture) (d : List ℕ) (x y v : ℕ) where
       of-texel none (value ∙ rw none refl)
 
   of-ktx : (file old : List ℕ) {new : List ℕ} → in_order p.order (ktx.plate_of file) ≡ p → ktx.level_data file ≡ d
-      → KtxDecoded p.order file old new ktx-answer.Done
+      → KtxDecoded p.order file old new (Ok tt)
       → x < p.width → y < p.height → v ≡ get_or new (place_in p x y) 0 → Seen p d x y v
   of-ktx file old ep ed w hx hy q =
       of-block (moved-block ep ed (decoded-block file w)) hx hy q
 
   of-level : (file : List ℕ) (k : ℕ) (old new : List ℕ) → in_order p.order (level.picture_of file k) ≡ p → level.level_data file k ≡ d
-      → LevelDecoded p.order file k old new level-answer.Done → x < p.width → y < p.height → v ≡ get_or new (place_in p x y) 0 → Seen p d x y v
+      → LevelDecoded p.order file k old new (Ok tt) → x < p.width → y < p.height → v ≡ get_or new (place_in p x y) 0 → Seen p d x y v
   of-level file k old new ep ed w hx hy q = of-block (moved-block ep ed (level-block file k w)) hx hy q
 
   of-program : (file : List ℕ) → plate_of file ≡ p → level_data file ≡ d → program_refusal file ≡ 0 → x < p.width → y < p.height

@@ -55,7 +55,7 @@ module _ (file : List ℕ) (none : header_refusal file ≡ 18 → ⊥) where
   which =
       record {
         header = λ r p. subst (λ n. SaysWhich n (one_number_refusal file)) (sym p.number) head;
-        reading = λ n e. subst (λ m. SaysWhich m (one_number_refusal file)) (of_number (pvr_says file) (sym e)).0 head;
+        reading = λ f a. subst (λ m. SaysWhich m (one_number_refusal file)) (of_number a) head;
         c-number = head;
         c-field = λ k h. rw (ne_eqb k 0 (λ e. omega arith), none-same head);
         program = program;

@@ -1,25 +1,27 @@
 -- What was read of a file while its PVR header was refused by another list of checks, `head`. All else is that of today. Assumes nothing: these are
 -- definitions.
+use Rattle.std.specs.Prelude.{Result}
 use Rattle.std.specs.Prelude.{◌≡◌, true, cond, List, ◌++◌, ◌↔◌, ℕ, length}
 use Rattle.facts.specs.Checks.{Check, first_of}
 use Rattle.files.specs.Fields.{bits_of}
-use Rattle.files.specs.Reading.{Says, reading_of}
+use Rattle.files.specs.Reading.{Says, Shown}
 use Rattle.paint.specs.Sheet.{on_sheet}
 use Rattle.pixel.specs.declared.ChannelOrder.{ChannelOrder}
 use Rattle.pvrtc.specs.Picture.{in_order, sheet_of, picture_texel}
 use Rattle.pvr.specs.Header.{width_field, height_field, is_two, payload_offset, HeaderAnswered, HeaderRead}
 use Rattle.pvr.specs.Reading.{pvr_plate, pvr_says}
-use Rattle.pvr.specs.declared.Header.{Header}
 use Rattle.ktx.specs.Header.{is_ktx}
 use Rattle.ktx.specs.Reading.{ktx_says}
 use Rattle.levels.specs.Calls.{Answered as AnsweredLevel, LevelRead, LevelDecoded}
 use Rattle.levels.specs.Levels.{levels_in, level_of, picture_of, level_data as data_of_level}
 use Rattle.levels.specs.Refusals.{ktx_header_checks, own_checks as level_own_checks, call_checks, decoded_number}
-use Rattle.levels.specs.declared.Decoded.{Decoded}
-use Rattle.levels.specs.declared.Described.{Described}
 use Rattle.capi.specs.Level.{described_field, level_field, WroteLevel}
 use Rattle.capi.specs.Plate.{Wrote, plate_field, field_of, header_field}
 use Rattle.convert.specs.Output.{stored_in, plate_of, level_data, own_checks, written, output, Answered, Converted, roomy, ConvertedInRoom}
+use Rattle.levels.specs.declared.Level.{Level}
+use Rattle.levels.specs.declared.Refusal.{Refusal as LevelRefusal}
+use Rattle.pvr.specs.declared.HeaderRefusal.{HeaderRefusal as PvrRefusal}
+use Rattle.pvr.specs.declared.Plate.{Plate as PvrPlate}
 
 -- A field of the header that C was told.
 abbrev pub field_by : List Check → List ℕ → ℕ → ℕ
@@ -58,8 +60,8 @@ with_level order file k old = on_sheet (sheet_of (picture_of file k)) (picture_t
 -- Every answer of today is the one by that list, in full.
 pub record AnsweredBy (head : List Check) (file : List ℕ) : Type 0 where
   -- The header's, what its reader tells the program, and C's fields.
-  pub header : (r : Header) → HeaderRead file r ↔ HeaderAnswered (first_of head) file r
-  pub reading : reading_of (pvr_says file) ≡ reading_of (pvr_says_by head file)
+  pub header : (r : Result PvrPlate PvrRefusal) → HeaderRead file r ↔ HeaderAnswered (first_of head) file r
+  pub reading : (r : Result Stored PvrRefusal) → Shown number_of (pvr_says file) r ↔ Shown number_of (pvr_says_by head file) r
   pub c-field : (k : ℕ) → header_field file k ≡ field_by head file k
   -- The program's: its output, and what `convert` lays into lent bytes and words, and `plate_convert` where there is room.
   pub program : output file ≡ written (program_refusal_by head file) (plate_of file) (level_data file)
@@ -68,9 +70,9 @@ pub record AnsweredBy (head : List Check) (file : List ℕ) : Type 0 where
   pub laid-in-room : (image image' out out' : List ℕ) (r : ℕ) → roomy image out ≡ true
       → ConvertedInRoom file image image' out out' r ↔ Answered (program_refusal_by head file) (plate_of file) (level_data file) image image' out out' r
   -- A level's: its description and its picture in either order, and both in C.
-  pub description : (k : ℕ) (r : Described) → LevelRead file k r ↔ AnsweredLevel (level_refusal_by head file k) (level_of file k) r
+  pub description : (k : ℕ) (r : Result Level LevelRefusal) → LevelRead file k r ↔ AnsweredLevel (level_refusal_by head file k) (level_of file k) r
   pub c-description : (k field : ℕ) → level_field file k field ≡ field_of (level_refusal_by head file k) (described_field (level_of file k) field) field
-  pub picture : (order : ChannelOrder) (k : ℕ) (old new : List ℕ) (r : Decoded) → LevelDecoded order file k old new r
+  pub picture : (order : ChannelOrder) (k : ℕ) (old new : List ℕ) (r : Result (Unit {0}) LevelRefusal) → LevelDecoded order file k old new r
       ↔ Wrote (decode_refusal_by head file k (length old)) (with_level order file k old) old new (decoded_number r)
   pub c-picture : (order : ChannelOrder) (k : ℕ) (old new : List ℕ) (n : ℕ) → WroteLevel order file k old new n
       ↔ Wrote (decode_refusal_by head file k (length old)) (with_level order file k old) old new n

@@ -1,5 +1,6 @@
 -- The order of channels over every call, as document 02 says it (W6): blue first all answers are what they were, red first each word is the
 -- same texel's with two bytes exchanged. Assumes nothing: these are definitions.
+use Rattle.std.specs.Prelude.{Result}
 use Rattle.std.specs.Prelude.{◌≡◌, cond, List, ◌++◌, ℕ, ◌+◌, ◌*◌, ◌/◌, ◌%◌, ◌<◌, eqb, get_or, drop}
 use Rattle.facts.specs.Tab.{tab}
 use Rattle.grid.specs.Grid.{half}
@@ -11,20 +12,19 @@ use Rattle.pvrtc.specs.Calls.{refusal, TexelRead, RowDecoded, BlockDecoded}
 use Rattle.pvrtc.specs.Picture.{in_order, grid_of}
 use Rattle.pvrtc.specs.Refusals.{decoded_number, texel_number, texel_value}
 use Rattle.pvrtc.specs.declared.Call.{Call}
-use Rattle.pvrtc.specs.declared.Decoded.{Decoded}
 use Rattle.pvrtc.specs.declared.Picture.{Picture}
-use Rattle.pvrtc.specs.declared.Texel.{Texel}
 use Rattle.ktx.specs.Picture.{decoded_number as ktx_number, KtxDecoded}
 use Rattle.ktx.specs.Picture as ktx
-use Rattle.ktx.specs.declared.Decoded.{Decoded as KtxAnswer}
 use Rattle.levels.specs.Calls.{LevelDecoded}
 use Rattle.levels.specs.Levels as level
 use Rattle.levels.specs.Refusals.{decoded_number as level_number}
-use Rattle.levels.specs.declared.Decoded.{Decoded as LevelAnswer}
 use Rattle.capi.specs.Ktx.{WroteKtx}
 use Rattle.capi.specs.Level.{WroteLevel}
 use Rattle.capi.specs.Plate.{order_of, texel_answer, WroteRow, WrotePicture}
 use Rattle.demands.specs.Right.{Gives}
+use Rattle.ktx.specs.declared.Refusal.{Refusal as KtxRefusal}
+use Rattle.levels.specs.declared.Refusal.{Refusal as LevelRefusal}
+use Rattle.pvrtc.specs.declared.Refusal.{Refusal}
 
 -- The four channels of texel (x, y) of a picture. The order has no part in them.
 abbrev pub channels_of : Picture → List ℕ → ℕ → ℕ → Pixel
@@ -60,11 +60,11 @@ words_in p = p.width * p.height
 
 -- The three calls on data d, and the same in C. The plain form and the Rust's names promise what the block call does.
 pub record ExchangedCalls (p : Picture) (d : List ℕ) : Type 0 where
-  pub texel : (x y : ℕ) (r s : Texel) → TexelRead (in_order RedFirst p) d x y r → TexelRead (in_order BlueFirst p) d x y s
+  pub texel : (x y : ℕ) (r s : Result ℕ Refusal) → TexelRead (in_order RedFirst p) d x y r → TexelRead (in_order BlueFirst p) d x y s
       → (texel_number r ≡ texel_number s) × (texel_value r ≡ exchanged (texel_value s))
-  pub row : (y : ℕ) (old new new' : List ℕ) (r s : Decoded) → RowDecoded (in_order RedFirst p) d y old new r → RowDecoded (in_order BlueFirst p) d y old new' s
+  pub row : (y : ℕ) (old new new' : List ℕ) (r s : Result (Unit {0}) Refusal) → RowDecoded (in_order RedFirst p) d y old new r → RowDecoded (in_order BlueFirst p) d y old new' s
       → Exchanges p.width (decoded_number r) (decoded_number s) new new'
-  pub block : (old new new' : List ℕ) (r s : Decoded) → BlockDecoded (in_order RedFirst p) d old new r → BlockDecoded (in_order BlueFirst p) d old new' s
+  pub block : (old new new' : List ℕ) (r s : Result (Unit {0}) Refusal) → BlockDecoded (in_order RedFirst p) d old new r → BlockDecoded (in_order BlueFirst p) d old new' s
       → Exchanges (words_in p) (decoded_number r) (decoded_number s) new new'
   pub c-texel : (x y : ℕ) → let red = texel_answer (in_order RedFirst p) d x y in let blue = texel_answer (in_order BlueFirst p) d x y in
       (red / 4294967296 ≡ blue / 4294967296) × (red % 4294967296 ≡ exchanged (blue % 4294967296))
@@ -75,11 +75,11 @@ pub record ExchangedCalls (p : Picture) (d : List ℕ) : Type 0 where
 
 -- The calls on a file and on a level of one, and the same in C.
 pub record ExchangedFiles (file : List ℕ) : Type 0 where
-  pub ktx-picture : (old new new' : List ℕ) (r s : KtxAnswer) → KtxDecoded RedFirst file old new r → KtxDecoded BlueFirst file old new' s
+  pub ktx-picture : (old new new' : List ℕ) (r s : Result (Unit {0}) KtxRefusal) → KtxDecoded RedFirst file old new r → KtxDecoded BlueFirst file old new' s
       → Exchanges (words_in (ktx.plate_of file)) (ktx_number r) (ktx_number s) new new'
   pub c-ktx-picture : (old new new' : List ℕ) (n m : ℕ) → WroteKtx RedFirst file old new n → WroteKtx BlueFirst file old new' m
       → Exchanges (words_in (ktx.plate_of file)) n m new new'
-  pub level-picture : (k : ℕ) (old new new' : List ℕ) (r s : LevelAnswer) → LevelDecoded RedFirst file k old new r → LevelDecoded BlueFirst file k old new' s
+  pub level-picture : (k : ℕ) (old new new' : List ℕ) (r s : Result (Unit {0}) LevelRefusal) → LevelDecoded RedFirst file k old new r → LevelDecoded BlueFirst file k old new' s
       → Exchanges (words_in (level.picture_of file k)) (level_number r) (level_number s) new new'
   pub c-level-picture : (k : ℕ) (old new new' : List ℕ) (n m : ℕ) → WroteLevel RedFirst file k old new n → WroteLevel BlueFirst file k old new' m
       → Exchanges (words_in (level.picture_of file k)) n m new new'

@@ -1,18 +1,16 @@
 -- Demand 1, against idle versions: inputs at which each of them would break a promise, at either depth, in either mode and in either order.
 -- Assumes nothing: these are definitions.
+use Rattle.std.specs.Prelude.{Result, Ok}
 use Rattle.std.specs.Prelude.{◌≡◌, Bool, List, ℕ, ◌+◌, ◌*◌, ◌%◌, ◌<◌, get_or, replicate}
 use Rattle.grid.specs.Grid.{half, block_width}
 use Rattle.pixel.specs.declared.ChannelOrder.{ChannelOrder}
 use Rattle.pvrtc.specs.Calls.{TexelRead, RowDecoded, BlockDecoded}
 use Rattle.pvrtc.specs.Picture.{picture}
 use Rattle.pvrtc.specs.Refusals.{texel_number, decoded_number}
-use Rattle.pvrtc.specs.declared.Decoded.{Decoded}
-use Rattle.pvrtc.specs.declared.Decoded.TheVariants.{Done}
 use Rattle.pvrtc.specs.declared.GridMode.{GridMode}
 use Rattle.pvrtc.specs.declared.Picture.{Picture}
-use Rattle.pvrtc.specs.declared.Texel.{Texel}
-use Rattle.pvrtc.specs.declared.Texel.TheVariants.{Word}
 use Rattle.demands.specs.Samples.{red_corner}
+use Rattle.pvrtc.specs.declared.Refusal.{Refusal}
 
 -- A plate that two blocks cover, red and black: side by side, and one above the other. Four blocks are enough for either mode.
 abbrev pub beside2 : Bool → GridMode → ChannelOrder → Picture
@@ -53,20 +51,20 @@ FirstRowAgain two new =
 -- What no outcome can be, at either depth, in either mode and in either order. The C calls' outcomes are these calls' (`SameInC`).
 pub record NoIdling (two : Bool) (mode : GridMode) (order : ChannelOrder) : Type 0 where
   -- It refuses each time: these calls must not.
-  pub texel-told : (r : Texel) → TexelRead (beside2 two mode order) red_corner 0 0 r → texel_number r ≡ 0
-  pub row_told : (new : List ℕ) (r : Decoded) → RowDecoded (beside2 two mode order) red_corner 2 (lent_row two) new r → decoded_number r ≡ 0
-  pub block-told : (new : List ℕ) (r : Decoded) → BlockDecoded (beside2 two mode order) red_corner (lent_image two) new r → decoded_number r ≡ 0
+  pub texel-told : (r : Result ℕ Refusal) → TexelRead (beside2 two mode order) red_corner 0 0 r → texel_number r ≡ 0
+  pub row_told : (new : List ℕ) (r : Result (Unit {0}) Refusal) → RowDecoded (beside2 two mode order) red_corner 2 (lent_row two) new r → decoded_number r ≡ 0
+  pub block-told : (new : List ℕ) (r : Result (Unit {0}) Refusal) → BlockDecoded (beside2 two mode order) red_corner (lent_image two) new r → decoded_number r ≡ 0
   -- It answers one fixed colour, and none can stand for all of these texels.
-  pub texel-varies : (v : ℕ) → TexelRead (beside2 two mode order) red_corner (half two) 2 (Word v)
-      → TexelRead (beside2 two mode order) red_corner (3 * half two) 2 (Word v) → ⊥
-  pub row-varies : (v : ℕ) (new : List ℕ) → RowDecoded (beside2 two mode order) red_corner 2 (lent_row two) new Done → OneColour (2 * block_width two) v new → ⊥
-  pub block-varies : (v : ℕ) (new : List ℕ) → BlockDecoded (beside2 two mode order) red_corner (lent_image two) new Done
+  pub texel-varies : (v : ℕ) → TexelRead (beside2 two mode order) red_corner (half two) 2 (Ok v)
+      → TexelRead (beside2 two mode order) red_corner (3 * half two) 2 (Ok v) → ⊥
+  pub row-varies : (v : ℕ) (new : List ℕ) → RowDecoded (beside2 two mode order) red_corner 2 (lent_row two) new (Ok tt) → OneColour (2 * block_width two) v new → ⊥
+  pub block-varies : (v : ℕ) (new : List ℕ) → BlockDecoded (beside2 two mode order) red_corner (lent_image two) new (Ok tt)
       → OneColour (8 * block_width two) v new → ⊥
   -- It writes nothing and reports success.
-  pub row_written : RowDecoded (beside2 two mode order) red_corner 2 (lent_row two) (lent_row two) Done → ⊥
-  pub block_written : BlockDecoded (beside2 two mode order) red_corner (lent_image two) (lent_image two) Done → ⊥
+  pub row_written : RowDecoded (beside2 two mode order) red_corner 2 (lent_row two) (lent_row two) (Ok tt) → ⊥
+  pub block_written : BlockDecoded (beside2 two mode order) red_corner (lent_image two) (lent_image two) (Ok tt) → ⊥
   -- It decodes the first block and repeats it, or the first row of blocks, or the first row.
-  pub row-goes-on : (new : List ℕ) → RowDecoded (beside2 two mode order) red_corner 2 (lent_row two) new Done → FirstBlockAgain two 1 new → ⊥
-  pub block-goes-on : (new : List ℕ) → BlockDecoded (beside2 two mode order) red_corner (lent_image two) new Done → FirstBlockAgain two 4 new → ⊥
-  pub block-goes-down : (new : List ℕ) → BlockDecoded (below2 two mode order) red_corner (lent_image two) new Done → FirstBlocksAgain two new → ⊥
-  pub rows-differ : (new : List ℕ) → BlockDecoded (below2 two mode order) red_corner (lent_image two) new Done → FirstRowAgain two new → ⊥
+  pub row-goes-on : (new : List ℕ) → RowDecoded (beside2 two mode order) red_corner 2 (lent_row two) new (Ok tt) → FirstBlockAgain two 1 new → ⊥
+  pub block-goes-on : (new : List ℕ) → BlockDecoded (beside2 two mode order) red_corner (lent_image two) new (Ok tt) → FirstBlockAgain two 4 new → ⊥
+  pub block-goes-down : (new : List ℕ) → BlockDecoded (below2 two mode order) red_corner (lent_image two) new (Ok tt) → FirstBlocksAgain two new → ⊥
+  pub rows-differ : (new : List ℕ) → BlockDecoded (below2 two mode order) red_corner (lent_image two) new (Ok tt) → FirstRowAgain two new → ⊥

@@ -1,4 +1,5 @@
 -- The levels of a file beside one another, and level 0 beside the plate. Assumes nothing: these are definitions.
+use Rattle.std.specs.Prelude.{Result, Ok}
 use Rattle.std.specs.Prelude.{◌≡◌, Bool, true, false, cond, List, ◌++◌, ◌↔◌, ℕ, ◌+◌, ◌*◌, ◌≤◌, ◌<◌, ltb, length, get_or}
 use Rattle.facts.specs.Checks.{first_of}
 use Rattle.files.specs.Fields.{u32_at}
@@ -10,14 +11,10 @@ use Rattle.ktx.specs.Header.{is_ktx}
 use Rattle.ktx.specs.NoEffect as ktx-same
 use Rattle.ktx.specs.NoEffect.{is_key_value}
 use Rattle.ktx.specs.Picture.{KtxDecoded}
-use Rattle.ktx.specs.declared.Decoded.TheVariants.{Done as KtxDone}
 use Rattle.levels.specs.Calls.{LevelRead, LevelDecoded}
 use Rattle.levels.specs.Levels.{levels_in, plate_in, picture_of, size_word_bytes, start_at, level_data}
 use Rattle.levels.specs.Ranges.{end_at, FileRanges, Halving, Allowed, Reckoned}
 use Rattle.levels.specs.Refusals.{header_checks, most_levels, level_refusal, decode_refusal}
-use Rattle.levels.specs.declared.Decoded.{Decoded}
-use Rattle.levels.specs.declared.Decoded.TheVariants.{Done}
-use Rattle.levels.specs.declared.Described.{Described}
 use Rattle.levels.specs.declared.Levels.{Levels}
 use Rattle.pixel.specs.declared.ChannelOrder.{ChannelOrder}
 use Rattle.pixel.specs.declared.ChannelOrder.TheVariants.{BlueFirst}
@@ -30,6 +27,8 @@ use Rattle.demands.specs.LocalCalls.{blocks_of, changed, most_touched}
 use Rattle.demands.specs.LocalFiles.{DamagedAt, OnlyNear}
 use Rattle.demands.specs.NoEffect.{SameButFlags}
 use Rattle.demands.specs.Right.{place_in}
+use Rattle.levels.specs.declared.Level.{Level}
+use Rattle.levels.specs.declared.Refusal.{Refusal as LevelRefusal}
 
 -- Where levels stand in a file, and how many there may be.
 pub record Placing : Type 0 where
@@ -63,8 +62,8 @@ pub record AlikeAt (f g : List ℕ) (k : ℕ) : Type 0 where
 
 -- Level k is the same in both: whatever describing or decoding it answers and writes, in either order, and what C is told.
 pub record SameLevel (f g : List ℕ) (k : ℕ) : Type 0 where
-  pub description : (r : Described) → LevelRead f k r ↔ LevelRead g k r
-  pub picture : (order : ChannelOrder) (old new : List ℕ) (r : Decoded) → LevelDecoded order f k old new r ↔ LevelDecoded order g k old new r
+  pub description : (r : Result Level LevelRefusal) → LevelRead f k r ↔ LevelRead g k r
+  pub picture : (order : ChannelOrder) (old new : List ℕ) (r : Result (Unit {0}) LevelRefusal) → LevelDecoded order f k old new r ↔ LevelDecoded order g k old new r
   pub c-field : (field : ℕ) → level_field f k field ≡ level_field g k field
   pub c-picture : (order : ChannelOrder) (old new : List ℕ) (n : ℕ) → WroteLevel order f k old new n ↔ WroteLevel order g k old new n
 
@@ -92,14 +91,14 @@ pub record EachByItself : Type 0 where
       × ((order : ChannelOrder) → OnlyNear (in_order order (picture_of f j)) (level_data f j) (level_data g j) z)
   -- At most 49 of its words change at 4bpp, 105 at 2bpp.
   pub few : (f g : List ℕ) (j z : ℕ) → DamagedAt (start_at (levels_in f) j) f g z
-      → (order : ChannelOrder) (old new old' new' : List ℕ) → LevelDecoded order f j old new Done → LevelDecoded order g j old' new' Done
+      → (order : ChannelOrder) (old new old' new' : List ℕ) → LevelDecoded order f j old new (Ok tt) → LevelDecoded order g j old' new' (Ok tt)
       → changed (picture_of f j) new new' ≤ most_touched (picture_of f j).is2bpp
 
 -- Level 0 is the plate, as the program, which is blue first, and `decode_ktx` have it: where both accept a file, both have the same texels.
 pub record FirstLevel (file : List ℕ) : Type 0 where
   pub plate : picture_of file 0 ≡ program.plate_of file
   pub plate-data : level_data file 0 ≡ program.level_data file
-  pub by-ktx : (order : ChannelOrder) (old new new' : List ℕ) → LevelDecoded order file 0 old new Done → KtxDecoded order file old new' KtxDone → new ≡ new'
-  pub by-program : (old new : List ℕ) → LevelDecoded BlueFirst file 0 old new Done → program_refusal file ≡ 0
+  pub by-ktx : (order : ChannelOrder) (old new new' : List ℕ) → LevelDecoded order file 0 old new (Ok tt) → KtxDecoded order file old new' (Ok tt) → new ≡ new'
+  pub by-program : (old new : List ℕ) → LevelDecoded BlueFirst file 0 old new (Ok tt) → program_refusal file ≡ 0
       → let p = program.plate_of file in (x y : ℕ) → x < p.width → y < p.height
       → u32_at (output file) (18 + 4 * place_in p x y) ≡ get_or new (place_in p x y) 0

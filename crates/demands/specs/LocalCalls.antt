@@ -1,5 +1,6 @@
 -- Demand 3, over every call and the program: a texel depends on its footprint, and damage in a block stays near it.
 -- Assumes nothing: these are definitions.
+use Rattle.std.specs.Prelude.{Ok}
 use Rattle.std.specs.Prelude.{◌≡◌, Bool, false, cond, not, ◌↔◌, ℕ, ◌+◌, ◌*◌, ◌/◌, ◌%◌, ◌≤◌, ◌<◌, eqb, length, get_or}
 use mathlib.Core.List.{List, Memᴰ}
 use Rattle.facts.specs.Count.{count}
@@ -9,7 +10,6 @@ use Rattle.pvrtc.specs.Calls.{refusal, BlockDecoded}
 use Rattle.pvrtc.specs.Picture.{grid_of}
 use Rattle.pvrtc.specs.Refusals.{need, short_image, outside}
 use Rattle.pvrtc.specs.declared.Call.{Call}
-use Rattle.pvrtc.specs.declared.Decoded.TheVariants.{Done}
 use Rattle.pvrtc.specs.declared.Picture.{Picture}
 use Rattle.demands.specs.Damage.{Spot, spot, damaged}
 use Rattle.demands.specs.Footprint.{footprint, is_in, SameBlock, SameOutside}
@@ -58,7 +58,7 @@ pub record Shown (p : Picture) (z : ℕ) : Type 0 where
   pub accepted : (c : Call) → short_image p c ≡ false → outside p c ≡ false → (refusal p c one ≡ 0) × (refusal p c other ≡ 0)
   pub differ : (x y v w : ℕ) → Memᴰ z (footprint_of p x y) → Gives p one x y v → Gives p other x y w → v ≡ w → ⊥
   -- So every touched word of the picture changes.
-  pub changes : (old new old' new' : List ℕ) → BlockDecoded p one old new Done → BlockDecoded p other old' new' Done → changed p new new' ≡ touched_by p z
+  pub changes : (old new old' new' : List ℕ) → BlockDecoded p one old new (Ok tt) → BlockDecoded p other old' new' (Ok tt) → changed p new new' ≡ touched_by p z
 
 -- What demand 3 says of a picture.
 pub record LocalCalls (p : Picture) : Type 0 where
@@ -85,7 +85,7 @@ pub record LocalCalls (p : Picture) : Type 0 where
   pub cut : (x y z : ℕ) → x < p.width → y < p.height → z < blocks_of p → Memᴰ (spot x y) (damaged_by p z) ↔ Memᴰ z (footprint_of p x y)
   -- It changes no more words of the picture than there are texels with z in their footprint, and these are at most so many.
   pub no_more : (z : ℕ) (d d' old new old' new' : List ℕ) → SameOutside (blocks_of p) d d' z
-      → BlockDecoded p d old new Done → BlockDecoded p d' old' new' Done → changed p new new' ≤ touched_by p z
+      → BlockDecoded p d old new (Ok tt) → BlockDecoded p d' old' new' (Ok tt) → changed p new new' ≤ touched_by p z
   pub at_most : (z : ℕ) → touched_by p z ≤ most_touched p.is2bpp
   -- Where the grid has at least two blocks each way and covers the picture exactly, exactly so many.
   pub exactly : WholePicture p → (z : ℕ) → z < blocks_of p → touched_by p z ≡ most_touched p.is2bpp

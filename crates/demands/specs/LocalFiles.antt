@@ -1,5 +1,6 @@
 -- Demand 3 over files: damage in the eight bytes of one block changes no texel outside that block's rectangle.
 -- Assumes nothing: these are definitions.
+use Rattle.std.specs.Prelude.{Ok}
 use Rattle.std.specs.Prelude.{◌≡◌, not, ℕ, ◌+◌, ◌*◌, ◌≤◌, ◌<◌, eqb, length, get_or}
 use mathlib.Core.List.{List, Memᴰ}
 use Rattle.facts.specs.Count.{count}
@@ -7,7 +8,6 @@ use Rattle.files.specs.Fields.{u32_at}
 use Rattle.ktx.specs.Header.{payload_offset}
 use Rattle.ktx.specs.Picture as ktx
 use Rattle.ktx.specs.Picture.{picture_refusal, KtxDecoded}
-use Rattle.ktx.specs.declared.Decoded.TheVariants.{Done}
 use Rattle.pixel.specs.declared.ChannelOrder.{ChannelOrder}
 use Rattle.pvrtc.specs.Picture.{in_order}
 use Rattle.pvrtc.specs.declared.Picture.{Picture}
@@ -38,7 +38,7 @@ pub record LocalFiles : Type 0 where
       × ((order : ChannelOrder) → OnlyNear (in_order order (ktx.plate_of f)) (ktx.level_data f) (ktx.level_data g) z)
   -- At most 49 of its words change at 4bpp, 105 at 2bpp.
   pub ktx-count : (f g : List ℕ) (z : ℕ) → DamagedAt (payload_offset f) f g z
-      → (order : ChannelOrder) (old new old' new' : List ℕ) → KtxDecoded order f old new Done → KtxDecoded order g old' new' Done
+      → (order : ChannelOrder) (old new old' new' : List ℕ) → KtxDecoded order f old new (Ok tt) → KtxDecoded order g old' new' (Ok tt)
       → changed (ktx.plate_of f) new new' ≤ most_touched (ktx.plate_of f).is2bpp
   -- A file of either kind, as the program writes it.
   pub program-near : (f g : List ℕ) (z : ℕ) → DamagedAt (stored_in f).payload f g z

@@ -1,4 +1,5 @@
 -- A KTX plate decodes as the same payload does from PVR. Assumes nothing: these are definitions.
+use Rattle.std.specs.Prelude.{Result}
 use Rattle.std.specs.Prelude.{◌≡◌, true, false, List, ◌↔◌, ℕ, ◌≤◌, ◌<◌, length, get_or}
 use Rattle.pvr.specs.Header as pvr
 use Rattle.ktx.specs.Header as ktx
@@ -9,8 +10,8 @@ use Rattle.pixel.specs.declared.ChannelOrder.{ChannelOrder}
 use Rattle.pvrtc.specs.Calls.{BlockDecoded}
 use Rattle.pvrtc.specs.Picture.{in_order}
 use Rattle.pvrtc.specs.Refusals.{need}
-use Rattle.pvrtc.specs.declared.Decoded.{Decoded}
 use Rattle.convert.specs.Output.{plate_of, level_data, skipped_limit, output}
+use Rattle.pvrtc.specs.declared.Refusal.{Refusal}
 
 -- A PVR file f and a KTX file g, neither refused for its header or for what it skips, that hold the same plate: the same sizes and depth, and
 -- the same payload bytes. The KTX file says the size that is needed.
@@ -30,5 +31,5 @@ pub record SamePlate (f g : List ℕ) : Type 0 where
 -- They give the same TGA, or the same refusal; and in either order decoding g answers and writes what the block call does on f's data.
 pub record SameAnswers (f g : List ℕ) : Type 0 where
   pub written : output f ≡ output g
-  pub picture : (order : ChannelOrder) (old new : List ℕ) (r : Decoded)
+  pub picture : (order : ChannelOrder) (old new : List ℕ) (r : Result (Unit {0}) Refusal)
       → BlockDecoded (in_order order (plate_of f)) (level_data f) old new r ↔ KtxDecoded order g old new (called_as r)

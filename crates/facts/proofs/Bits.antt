@@ -1,13 +1,8 @@
 -- Laws of bits kept together in one number. Assumes nothing.
-use mathlib.Core.Path.{◌≡◌, refl, sym, ap, ◌∙◌}
-use mathlib.Core.Bool.{Bool, true, false, cond}
-use mathlib.Core.Logic.{⊎_elim}
-use Prim.Native.Nat.{ℕ, zero, suc, ◌+◌, ◌-◌, ◌*◌, ◌/◌, ◌%◌, ◌^◌, ◌<◌}
-use native.Mathlib.Nat.{le_of_suc-le-suc, not-suc-le-zero, eq-or-lt_of_le, pow-succ', add-mul-div_right}
-use native.Mathlib.Numerals.{add-one}
-use native.Mathlib.Omega.{arith}
-use lib.Bits.{bit_or, or_shifted_r}
-use lib.Pow.{pow_pos}
+use Rattle.std.proofs.Common.{◌≡◌, refl, sym, ap, ◌∙◌, Bool, true, false, cond, ⊎_elim, ℕ, zero, suc, ◌+◌, ◌-◌, ◌*◌, ◌/◌, ◌%◌, ◌^◌, ◌<◌, le_of_suc-le-suc}
+use Rattle.std.proofs.Common.{not-suc-le-zero, eq-or-lt_of_le, add-one, arith, bit_or, pow_pos}
+use native.Mathlib.Nat.{pow-succ', add-mul-div_right}
+use lib.Bits.{or_shifted_r}
 use Rattle.facts.specs.Bits.{flags}
 use Rattle.facts.proofs.Numbers.{split}
 use Rattle.facts.proofs.Powers.{pow-split}

@@ -1,14 +1,7 @@
 -- A number is said exactly when its condition holds and no earlier one does. Assumes nothing.
-use mathlib.Core.Path.{◌≡◌, refl, sym, ◌∙◌}
-use mathlib.Core.Bool.{Bool, true, false, cond, ◌&&◌}
-use mathlib.Core.List.{List, [], ◌∷◌, ◌++◌}
-use mathlib.Core.Logic.{◌↔◌}
-use Prim.Native.Nat.{ℕ, zero, suc, ◌<◌}
-use native.Mathlib.Nat.{le_of_suc-le-suc, not-suc-le-zero}
-use native.Mathlib.Omega.{arith}
-use lib.Dec.{T, eqb, ltb, ltb→lt}
-use lib.ListN.{length}
-use borrow.Author.Tests.{ne_eqb, eqb-true, eqb-false}
+use Rattle.std.proofs.Common.{◌≡◌, refl, sym, ◌∙◌, Bool, true, false, cond, ◌&&◌, List, [], ◌∷◌, ◌++◌, ◌↔◌, ℕ, zero, suc, ◌<◌, le_of_suc-le-suc}
+use Rattle.std.proofs.Common.{not-suc-le-zero, arith, T, eqb, ltb, ltb→lt, length, ne_eqb, eqb-true}
+use borrow.Author.Tests.{eqb-false}
 use Rattle.facts.specs.Checks.{Check, first_of, numbered, condition, at, Given}
 use Rattle.facts.proofs.Finite.{and_left, and_right}
 

@@ -1,13 +1,9 @@
 -- A count against a list without repetition: at most as many pass as a list has that names all of them, and at least as many as one has
 -- that names no other. Assumes nothing.
-use mathlib.Core.Path.{◌≡◌, refl, sym, ap, ◌∙◌}
-use mathlib.Core.Bool.{Bool, true, false, cond, not, ◌&&◌, false≢true}
-use mathlib.Core.Logic.{⊎_elim}
-use Prim.Native.Nat.{ℕ, zero, suc, ◌+◌, ◌≤◌, ◌<◌}
-use native.Mathlib.Nat.{not-suc-le-zero, le_of_suc-le-suc, eq-or-lt_of_le}
-use native.Mathlib.Omega.{arith}
-use lib.Dec.{eqb}
-use borrow.Author.Tests.{eqb-true, eqb-false, eq-eqb, ne_eqb}
+use Rattle.std.proofs.Common.{◌≡◌, refl, sym, ap, ◌∙◌, Bool, true, false, cond, not, ◌&&◌, ⊎_elim, ℕ, zero, suc, ◌+◌, ◌≤◌, ◌<◌, not-suc-le-zero}
+use Rattle.std.proofs.Common.{le_of_suc-le-suc, eq-or-lt_of_le, arith, eqb, eqb-true, eq-eqb, ne_eqb}
+use mathlib.Core.Bool.{false≢true}
+use borrow.Author.Tests.{eqb-false}
 use Rattle.facts.specs.Count.{count}
 use Rattle.facts.proofs.Lists.{Value}
 use Rattle.facts.proofs.Numbers.{lt-or-le}

@@ -1,12 +1,7 @@
 -- Laws of natural numbers that the library lacks. Assumes nothing.
-use mathlib.Core.Path.{◌≡◌, refl, ap}
-use mathlib.Core.Bool.{Bool, true, false, cond}
-use mathlib.Core.Logic.{◌⊎◌, inl, inr}
-use Prim.Native.Nat.{ℕ, ◌+◌, ◌*◌, ◌/◌, ◌%◌, ◌≤◌, ◌<◌}
-use native.Mathlib.Nat.{div-eq_of_lt-le, div-add-mod'}
-use native.Mathlib.Omega.{arith}
-use lib.Dec.{ltb}
-use borrow.Author.Tests.{ltb-true, ltb-false}
+use Rattle.std.proofs.Common.{◌≡◌, refl, ap, Bool, true, false, cond, ◌⊎◌, inl, inr, ℕ, ◌+◌, ◌*◌, ◌/◌, ◌%◌, ◌≤◌, ◌<◌, div-add-mod', arith, ltb, ltb-true}
+use Rattle.std.proofs.Common.{ltb-false}
+use native.Mathlib.Nat.{div-eq_of_lt-le}
 
 -- of two numbers the first is smaller, or the second is not larger
 pub lt-or-le : (m n : ℕ) → (m < n) ⊎ (n ≤ m)

@@ -1,6 +1,5 @@
 -- Laws of two tests of which either may hold. Assumes nothing.
-use mathlib.Core.Path.{◌≡◌, refl}
-use mathlib.Core.Bool.{Bool, true, false, ◌||◌}
+use Rattle.std.proofs.Common.{◌≡◌, refl, Bool, true, false, ◌||◌}
 
 -- where neither of two tests holds, the first does not, and the second does not
 pub or_left : (a b : Bool) → (a || b) ≡ false → a ≡ false

@@ -1,9 +1,6 @@
 -- What a list of checks says, check by check: the number of one that holds, past one that does not what the rest says, and 0 at the end.
 -- Assumes nothing.
-use mathlib.Core.Path.{◌≡◌, refl}
-use mathlib.Core.Bool.{Bool, true, false}
-use mathlib.Core.List.{List, [], ◌∷◌}
-use Prim.Native.Nat.{ℕ}
+use Rattle.std.proofs.Common.{◌≡◌, refl, Bool, true, false, List, [], ◌∷◌, ℕ}
 use Rattle.facts.specs.Checks.{Check, check, first_of}
 
 module _ (b : Bool) (n : ℕ) (l : List Check) where

@@ -1,9 +1,7 @@
 -- Laws of powers of two. Assumes nothing.
-use mathlib.Core.Path.{◌≡◌, refl, sym, ap, ◌∙◌}
-use Prim.Native.Nat.{ℕ, zero, suc, ◌+◌, ◌-◌, ◌*◌, ◌/◌, ◌^◌, ◌≤◌, ◌<◌}
-use native.Mathlib.Nat.{not-le_of_lt, div-div-eq-div-mul, pow-succ'}
-use native.Mathlib.Omega.{arith}
-use lib.Pow.{pow-lt, pow-add}
+use Rattle.std.proofs.Common.{◌≡◌, refl, sym, ap, ◌∙◌, ℕ, zero, suc, ◌+◌, ◌-◌, ◌*◌, ◌/◌, ◌^◌, ◌≤◌, ◌<◌, not-le_of_lt, arith, pow-add}
+use native.Mathlib.Nat.{div-div-eq-div-mul, pow-succ'}
+use lib.Pow.{pow-lt}
 
 -- of two powers, the smaller has the smaller exponent
 pub pow-le-cancel : {a b : ℕ} → 2 ^ a ≤ 2 ^ b → a ≤ b

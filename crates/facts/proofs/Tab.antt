@@ -1,14 +1,10 @@
 -- Laws of the list of a function's first values, and of a loop that fills a list with them from the front.
 -- Assumes nothing.
-use mathlib.Core.Path.{◌≡◌, refl, sym, ap, subst, ◌∙◌}
-use mathlib.Core.List.{List, [], ◌∷◌, ◌++◌, append_assoc, append-nil}
-use mathlib.Core.Logic.{⊎_elim}
-use Prim.Native.Nat.{ℕ, zero, suc, ◌+◌, ◌≤◌, ◌<◌}
-use native.Mathlib.Nat.{le_of_eq, not-suc-le-zero, le_of_suc-le-suc, eq-or-lt_of_le}
-use native.Mathlib.Numerals.{add-one}
-use native.Mathlib.Omega.{arith}
-use lib.ListN.{length, get_or, set, drop, length-append, length-drop, get_or-append, drop_of_length-le}
-use lib.Seq.{drop-cons, ext_get_or, set_at, get_or-append_seam}
+use Rattle.std.proofs.Common.{◌≡◌, refl, sym, ap, subst, ◌∙◌, List, [], ◌∷◌, ◌++◌, append_assoc, append-nil, ⊎_elim, ℕ, zero, suc, ◌+◌, ◌≤◌, ◌<◌, le_of_eq}
+use Rattle.std.proofs.Common.{not-suc-le-zero, le_of_suc-le-suc, eq-or-lt_of_le, add-one, arith, length, get_or, set, drop, length-append, length-drop}
+use Rattle.std.proofs.Common.{drop_of_length-le, drop-cons, ext_get_or}
+use lib.ListN.{get_or-append}
+use lib.Seq.{set_at, get_or-append_seam}
 use Rattle.facts.specs.Tab.{tab}
 
 module _ {A : Type 0} where

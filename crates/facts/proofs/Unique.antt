@@ -1,5 +1,5 @@
 -- A promise that is an equation leaves one outcome. Assumes nothing.
-use mathlib.Core.Path.{◌≡◌, sym, ◌∙◌}
+use Rattle.std.proofs.Common.{◌≡◌, sym, ◌∙◌}
 
 -- two answers that both equal one definition are one answer
 pub one_answer : {A : Type 0} {r s d : A} → r ≡ d → s ≡ d → r ≡ s

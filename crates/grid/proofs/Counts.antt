@@ -10,10 +10,6 @@ pub wide : (two : Bool) → 0 < block_width two
 wide true = omega arith
 wide false = omega arith
 
--- a width by another name
-pub wide-as : (two : Bool) {w : ℕ} → w ≡ block_width two → 0 < w
-wide-as two e = rw e (wide two)
-
 module _ (size side : ℕ) (pos : 0 < size) where
   -- a side that the size divides
   pub exact : side % size ≡ 0 → side / size ≡ blocks size side
@@ -23,10 +19,6 @@ module _ (size side : ℕ) (pos : 0 < size) where
   pub clipped : (side % size ≡ 0 → ⊥) → side / size + 1 ≡ blocks size side
   clipped n =
       sym (split size (side + (size - 1)) (side / size + 1) (side % size - 1) (omega (arith, div-add-mod' side size)) (omega (arith, mod-lt side pos))).0
-
-  -- there are no more blocks than texels
-  pub fits : (side % size ≡ 0 → ⊥) → side / size + 1 ≤ side
-  fits n = omega (arith, div-add-mod' side size, mul-le-mul_left (side / size) pos)
 
   -- the blocks cover the side, and the last of them starts within it
   pub blocks-cover : side ≤ blocks size side * size

@@ -1,12 +1,14 @@
 -- Laws of spread bits, and the address by them. Assumes nothing.
-use Rattle.std.proofs.Common.{◌≡◌, ℕ, zero, suc, ◌+◌, ◌-◌, ◌*◌, ◌/◌, ◌%◌, ◌^◌, ◌<◌, ◌≤◌, min, List, get_or, sym, refl, ap, ◌∙◌, mod-lt, suc-add}
-use Rattle.std.proofs.Common.{div-add-mod', zero-add, div-one, add-one, arith, pow_pos}
+use Rattle.std.proofs.Common.{◌≡◌, ℕ, zero, suc, ◌+◌, ◌-◌, ◌*◌, ◌/◌, ◌%◌, ◌^◌, ◌<◌, ◌≤◌, min, Bool, eqb, List, length, get_or, ext_get_or, eqb→eq, sym, refl, ap, ◌∙◌, mod-lt, suc-add}
+use Rattle.std.proofs.Common.{div-add-mod', zero-add, div-one, add-one, arith, pow_pos, bit_and}
 use native.Mathlib.Nat.{pow-succ', div-eq_of_lt}
-use lib.Bits.{bit_and}
 use lib.Pow.{field, mod-mod-pow}
 use Rattle.facts.proofs.Powers.{pow-le-cancel, shift}
-use Rattle.facts.proofs.Tab.{get_or-tab}
+use Rattle.facts.specs.Tab.{tab}
+use Rattle.facts.proofs.Finite.{at}
+use Rattle.facts.proofs.Tab.{get_or-tab, length-tab}
 use Rattle.grid.specs.Grid.{log2, address, block_address, spread_bits, spread_table, spread_by_table, table_address, Placed}
+use Rattle.grid.specs.declared.table.TheConstants.{SPREAD}
 use Rattle.grid.proofs.Powers.{mask-mod}
 
 pub spread-lt : (k v : ℕ) → spread_bits k v < 4 ^ k
@@ -18,6 +20,19 @@ spread-lt (suc k) v = omega (arith, spread-lt k (v / 2))
 pub entry : (table : List ℕ) (b : ℕ) → table ≡ spread_table → b < 256 → get_or table b 0 ≡ spread_bits 8 b
 unfolding spread_table
 entry table b e l = ap (λ (t : List ℕ). get_or t b 0) e ∙ get_or-tab (spread_bits 8) 256 b 0 l
+
+-- entry b of a table is x
+right : ℕ → ℕ → Bool
+right b x = eqb x (spread_bits 8 b)
+
+-- the table in the code is the table of spread bytes: its rule is one test at each of its entries, which the checker computes
+pub table-is : SPREAD ≡ spread_table
+unfolding right spread_bits spread_table
+table-is =
+    let long : length (tab (spread_bits 8) 256) ≡ 256 = length-tab (spread_bits 8) 256 in
+    ext_get_or 0 SPREAD (tab (spread_bits 8) 256) (sym long) (λ b l.
+    let h : b < 256 = omega arith in
+    eqb→eq (get_or SPREAD b 0) (spread_bits 8 b) (at right SPREAD 0 tt b l) ∙ sym (get_or-tab (spread_bits 8) 256 b 0 h))
 
 -- the low bits, and above them the others
 pub spread-add : (i j v : ℕ) → spread_bits (i + j) v ≡ spread_bits i v + 4 ^ i * spread_bits j (v / 2 ^ i)

@@ -7,7 +7,7 @@ ghost use Rattle.std.specs.Prelude.{◌≡◌, ◌<◌, ◌≤◌};
 ghost use Rattle.grid.specs.Grid.{block_width, blocks, log2, Power, is_power, Placed, address, beside};
 ghost use Rattle.grid.specs.Words.{word_bytes};
 
-pub use table::{morton_index_by_table, spread, spread_table};
+pub use table::{morton_index_by_table, spread};
 
 // The blocks that hold a picture's words: how many across and down, and the depth that they are read at.
 #[derive(Clone, Copy)]
@@ -24,31 +24,18 @@ pub fn block_width(is2bpp: bool) -> usize
     if is2bpp { 8 } else { 4 }
 }
 
-// `side` divided by `size`, rounded up.
-fn div_ceil(side: usize, size: usize) -> usize
-    requires { 0 < size }
-    ensures { result ≡ blocks size side }
-{
-    let whole = side / size;
-    if side % size == 0 { whole } else { whole + 1 }
-}
-
 // The blocks across a picture.
 pub fn num_blocks_x(width: usize, is2bpp: bool) -> usize
     ensures { result ≡ blocks (block_width is2bpp) width }
 {
-    if is2bpp {
-        div_ceil(width, 8)
-    } else {
-        div_ceil(width, 4)
-    }
+    width.div_ceil(block_width(is2bpp))
 }
 
 // The blocks down a picture.
 pub fn num_blocks_y(height: usize) -> usize
     ensures { result ≡ blocks 4 height }
 {
-    div_ceil(height, 4)
+    height.div_ceil(4)
 }
 
 // The bytes of a grid's words.
@@ -63,7 +50,7 @@ pub fn need_of(g: Grid) -> usize
 pub fn is_power_of_two(n: usize) -> bool
     ensures { result ≡ is_power n }
 {
-    if n == 0 { false } else { n & (n - 1) == 0 }
+    n.is_power_of_two()
 }
 
 // The address of block (x, y), where min_dim is the smaller side of the grid: quarter the square, then quarter the quarter. The blocks of
@@ -97,7 +84,7 @@ pub fn previous_block(c: usize, side: usize) -> usize
     requires { Power side }
     ensures { result ≡ beside side c 0 }
 {
-    std::num::wrapping_sub_usize(c, 1) % side
+    c.wrapping_sub(1) % side
 }
 
 // The block after block c of a side, round the torus.
@@ -105,5 +92,5 @@ pub fn next_block(c: usize, side: usize) -> usize
     requires { Power side }
     ensures { result ≡ beside side c 2 }
 {
-    std::num::wrapping_add_usize(c, 1) % side
+    c.wrapping_add(1) % side
 }

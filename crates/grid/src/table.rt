@@ -1,43 +1,34 @@
-// The address through a table of spread bytes, which is lent.
+// The address through a table of spread bytes.
 ghost use Rattle.std.specs.Prelude.{◌≡◌, ◌<◌};
-ghost use Rattle.grid.specs.Grid.{log2, Placed, address, spread_bits, spread_table};
+ghost use Rattle.grid.specs.Grid.{log2, Placed, address, spread_bits};
 
 // The address of block (x, y), as morton_index gives it. What x and y have above the square is a multiple of its side.
-pub fn morton_index_by_table(table: &[u16; 256], x: usize, y: usize, min_dim: usize) -> usize
-    requires table_value { table.now ≡ spread_table }
-    requires placed { Placed min_dim x y }
+pub fn morton_index_by_table(x: usize, y: usize, min_dim: usize) -> usize
+    requires { Placed min_dim x y }
     ensures { result ≡ address (log2 min_dim) x y }
 {
     let low_x = x & (min_dim - 1);
     let low_y = y & (min_dim - 1);
-    ((x - low_x) + (y - low_y)) * min_dim + (spread(table, low_x) * 2 + spread(table, low_y))
+    ((x - low_x) + (y - low_y)) * min_dim + (spread(low_x) * 2 + spread(low_y))
 }
 
 // The sixteen low bits of v, bit i moved to bit 2i.
-pub fn spread(table: &[u16; 256], v: usize) -> usize
-    requires { table.now ≡ spread_table }
+pub fn spread(v: usize) -> usize
     ensures { result ≡ spread_bits 16 v }
 {
-    spread_byte(table, v % 256) + spread_byte(table, v / 256 % 256) * 65536
+    spread_byte(v % 256) + spread_byte(v / 256 % 256) * 65536
 }
 
 // The eight bits of b, bit i moved to bit 2i.
-fn spread_byte(table: &[u16; 256], b: usize) -> usize
-    requires { (table.now ≡ spread_table) × (b < 256) }
+fn spread_byte(b: usize) -> usize
+    requires { b < 256 }
     ensures { result ≡ spread_bits 8 b }
 {
-    table[b] as usize
-}
-
-// The table, for whoever lends it.
-pub fn spread_table() -> [u16; 256]
-    ensures { result ≡ spread_table }
-{
-    SPREAD
+    SPREAD[b] as usize
 }
 
 // Entry b is the byte b, spread.
-const SPREAD: [u16; 256] = [
+static SPREAD: [u16; 256] = [
     0, 1, 4, 5, 16, 17, 20, 21, 64, 65, 68, 69, 80, 81, 84, 85, 256, 257, 260, 261, 272, 273, 276,
     277, 320, 321, 324, 325, 336, 337, 340, 341, 1024, 1025, 1028, 1029, 1040, 1041, 1044, 1045,
     1088, 1089, 1092, 1093, 1104, 1105, 1108, 1109, 1280, 1281, 1284, 1285, 1296, 1297, 1300, 1301,

@@ -1,9 +1,5 @@
 -- The fields of a 64-bit word are the parts of its eight bytes: the modulation below, colour A, colour B on top. Assumes nothing.
-use mathlib.Core.Path.{◌≡◌, ap}
-use mathlib.Core.List.{List}
-use Prim.Native.Nat.{ℕ, ◌+◌, ◌*◌, ◌/◌, ◌%◌, ◌^◌, ◌<◌}
-use native.Mathlib.Omega.{arith}
-use lib.Dec.{eqb}
+use Rattle.std.proofs.Common.{◌≡◌, ap, List, ℕ, ◌+◌, ◌*◌, ◌/◌, ◌%◌, ◌^◌, ◌<◌, arith, eqb}
 use Rattle.facts.specs.Bits.{is_set}
 use Rattle.word.specs.Word.{modulation, color_a, color_b}
 use Rattle.khronos.specs.Agrees.{Bytes}

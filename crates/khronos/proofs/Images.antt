@@ -1,9 +1,5 @@
 -- The colours of the small images A and B are the two colours of a word. Assumes nothing.
-use mathlib.Core.Path.{◌≡◌}
-use mathlib.Core.Bool.{Bool, true, false, cond}
-use mathlib.Core.List.{List}
-use Prim.Native.Nat.{ℕ, ◌/◌, ◌%◌, ◌^◌}
-use native.Mathlib.Omega.{arith}
+use Rattle.std.proofs.Common.{◌≡◌, Bool, true, false, cond, List, ℕ, ◌/◌, ◌%◌, ◌^◌, arith}
 use Rattle.facts.specs.Bits.{is_set}
 use Rattle.word.specs.Word.{blue_a, blue_b, color_of, word_of}
 use Rattle.word.specs.declared.PVRTCTexelColor.{PVRTCTexelColor}

@@ -1,11 +1,5 @@
 -- Every texel of document 01 is the one that Khronos describes. Assumes nothing.
-use mathlib.Core.Path.{◌≡◌, sym, ap, ◌∙◌}
-use mathlib.Core.Bool.{Bool}
-use mathlib.Core.List.{List}
-use Prim.Native.Nat.{ℕ, ◌+◌, ◌*◌, ◌/◌, ◌%◌, ◌<◌}
-use native.Mathlib.Omega.{arith}
-use lib.ListN.{drop}
-use lib.Seq.{get_or-drop}
+use Rattle.std.proofs.Common.{◌≡◌, sym, ap, ◌∙◌, Bool, List, ℕ, ◌+◌, ◌*◌, ◌/◌, ◌%◌, ◌<◌, arith, drop, get_or-drop}
 use Rattle.grid.specs.Grid.{half, block_width, beside}
 use Rattle.grid.proofs.Powers.{power-above}
 use Rattle.grid.proofs.Torus.{beside-own, beside-below}

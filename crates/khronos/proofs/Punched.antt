@@ -1,11 +1,6 @@
 -- The texels that are punched through are those that a word's flag says. Assumes nothing.
-use mathlib.Core.Path.{◌≡◌, refl}
-use mathlib.Core.Bool.{Bool, true, false, cond}
-use mathlib.Core.List.{List}
-use Prim.Native.Nat.{ℕ, ◌+◌, ◌*◌, ◌%◌, ◌^◌}
+use Rattle.std.proofs.Common.{◌≡◌, refl, Bool, true, false, cond, List, ℕ, ◌+◌, ◌*◌, ◌%◌, ◌^◌, arith, eqb}
 use native.Mathlib.Nat.{zero-div}
-use native.Mathlib.Omega.{arith}
-use lib.Dec.{eqb}
 use Rattle.grid.specs.Grid.{half}
 use Rattle.word.specs.Word.{modulation, mode, punch4bpp, word_of}
 use Rattle.word.proofs.Bounds.{never-punched, punch-bit}

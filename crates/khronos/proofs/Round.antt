@@ -1,8 +1,6 @@
 -- A place of the three by three blocks about a texel, as a place round the picture. Assumes nothing.
-use mathlib.Core.Path.{◌≡◌, sym, ap, ◌∙◌}
-use Prim.Native.Nat.{ℕ, ◌+◌, ◌-◌, ◌*◌, ◌/◌, ◌%◌, ◌<◌}
-use native.Mathlib.Nat.{mod-lt, div-add-mod', mul-pos, add-mul-mod_self_right}
-use native.Mathlib.Omega.{arith}
+use Rattle.std.proofs.Common.{◌≡◌, sym, ap, ◌∙◌, ℕ, ◌+◌, ◌-◌, ◌*◌, ◌/◌, ◌%◌, ◌<◌, mod-lt, div-add-mod', mul-pos, arith}
+use native.Mathlib.Nat.{add-mul-mod_self_right}
 use Rattle.facts.proofs.Numbers.{split}
 use Rattle.grid.specs.Grid.{beside}
 use Rattle.grid.proofs.Torus.{round}

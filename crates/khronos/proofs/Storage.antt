@@ -1,13 +1,8 @@
 -- Khronos's count of blocks and its order of words are document 01's. Assumes nothing.
-use mathlib.Core.Path.{◌≡◌, refl, ap, ap₂, ◌∙◌}
-use mathlib.Core.Bool.{Bool, true, false, cond}
-use mathlib.Core.Logic.{⊎_elim}
-use Prim.Native.Nat.{ℕ, zero, suc, ◌+◌, ◌-◌, ◌*◌, ◌/◌, ◌%◌, ◌^◌, ◌≤◌, ◌<◌, min, max}
-use native.Mathlib.Nat.{pow-succ', div-one, zero-div, mul-le-mul_right}
-use native.Mathlib.Omega.{arith}
-use lib.Dec.{eqb, eqb→eq}
-use lib.Pow.{pow_mono}
-use borrow.Author.Tests.{eqb-true, eqb-false}
+use Rattle.std.proofs.Common.{◌≡◌, refl, ap, ap₂, ◌∙◌, Bool, true, false, cond, ⊎_elim, ℕ, zero, suc, ◌+◌, ◌-◌, ◌*◌, ◌/◌, ◌%◌, ◌^◌, ◌≤◌, ◌<◌, min, max}
+use Rattle.std.proofs.Common.{div-one, mul-le-mul_right, arith, eqb, eqb→eq, pow_mono, eqb-true}
+use native.Mathlib.Nat.{pow-succ', zero-div}
+use borrow.Author.Tests.{eqb-false}
 use Rattle.facts.proofs.Finite.{below}
 use Rattle.facts.proofs.Numbers.{lt-or-le, split}
 use Rattle.facts.proofs.Powers.{pow-le-cancel, shift}

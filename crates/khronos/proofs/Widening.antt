@@ -1,8 +1,5 @@
 -- A channel that was made large has the same 8 bits in both forms. Assumes nothing.
-use mathlib.Core.Path.{◌≡◌}
-use mathlib.Core.Bool.{Bool, true, false}
-use Prim.Native.Nat.{ℕ, ◌*◌}
-use native.Mathlib.Omega.{arith}
+use Rattle.std.proofs.Common.{◌≡◌, Bool, true, false, ℕ, ◌*◌, arith}
 use Rattle.grid.specs.Grid.{half}
 use Rattle.texel.specs.Texel.{scale_color, scale_alpha}
 use Rattle.khronos.specs.Khronos.{five→eight, four→eight}

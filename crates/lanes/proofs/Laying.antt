@@ -1,64 +1,52 @@
 -- How the texels of a row are laid, at either depth: word by word, as far as its sheet has columns. Assumes nothing.
 use mathlib.Core.Path.{◌≡◌}
+use mathlib.Core.Bool.{Bool, true, false}
 use mathlib.Core.List.{List}
 use Prim.Native.Nat.{ℕ, ◌+◌, ◌*◌, ◌≤◌, ◌<◌, min}
 use native.Mathlib.Omega.{arith}
 use lib.ListN.{length, set}
+use Rattle.grid.specs.Grid.{half}
 use Rattle.paint.proofs.Laid.{Row, row-none, row_word}
 use Rattle.paint.specs.Paint.{painted}
 use Rattle.lanes.specs.declared.Sums.{Sums}
 use Rattle.lanes.specs.declared.Column.{Column}
-use Rattle.lanes.specs.Column.{across_a, across_b, most, sums_at, SmallColumn, SmallSums}
-use Rattle.lanes.proofs.Linear.{shared-first, sums-fit}
+use Rattle.lanes.specs.declared.Meaning.{Meaning}
+use Rattle.lanes.specs.Column.{across, sums_at, SmallColumn, SmallSums}
+use Rattle.lanes.specs.Lanes.{fitted, mixed_lanes, texel_lanes}
+use Rattle.lanes.proofs.Linear.{sums-fit}
 
 -- what the loop over the 2h places of a row keeps: the two sums of place i, and that the words of the places before it are laid
-pub record RowLaid (h : ℕ) (s : Sums) (f : ℕ → ℕ) (old : List ℕ) (at columns i a b : ℕ) (img : List ℕ) : Type 0 where
+pub record RowLaid (h : ℕ) (a b : Sums) (f : ℕ → ℕ) (old : List ℕ) (at columns i sum-a sum-b : ℕ) (img : List ℕ) : Type 0 where
   pub early : i ≤ 2 * h
-  pub sum-a : a ≡ across_a h s i
-  pub sum-b : b ≡ across_b h s i
+  pub is-a : sum-a ≡ across h a i
+  pub is-b : sum-b ≡ across h b i
   pub laid : Row (λ x y. f x) old at columns (min i columns) img
 
 -- none of them
-pub row-start : (h : ℕ) (s : Sums) (f : ℕ → ℕ) (old : List ℕ) (at columns : ℕ)
-    → RowLaid h s f old at columns 0 (h * s.left_a + h * s.own_a) (h * s.left_b + h * s.own_b) old
-row-start h s f old at columns =
+pub row-start : {h : ℕ} {a b : Sums} {f : ℕ → ℕ} {old : List ℕ} {at columns sum-a sum-b : ℕ} → sum-a ≡ across h a 0 → sum-b ≡ across h b 0
+    → RowLaid h a b f old at columns 0 sum-a sum-b old
+row-start {h} {a} {b} {f} {old} {at} {columns} ea eb =
     let e : min 0 columns ≡ 0 = omega arith in
-    record {
-      early = omega arith;
-      sum-a = shared-first h s.left_a s.own_a s.right_a;
-      sum-b = shared-first h s.left_b s.own_b s.right_b;
-      laid = rw e (row-none (λ x y. f x) old at columns);
-    }
+    record { early = omega arith; is-a = ea; is-b = eb; laid = rw e (row-none (λ x y. f x) old at columns) }
 
-module _ {h : ℕ} {s : Sums} {f : ℕ → ℕ} {old : List ℕ} {at columns i a b : ℕ} {img : List ℕ} (r : RowLaid h s f old at columns i a b img) where
-  -- the sums are small enough to be brought to 8 bits
-  pub small-enough : SmallSums s → h ≤ 4 → (a ≤ 288230376151711744) × (b ≤ 288230376151711744)
-  small-enough k l =
-      let fits-a = sums-fit h i s.left_a s.own_a s.right_a l r.early k.left-a k.own-a k.right-a in
-      let fits-b = sums-fit h i s.left_b s.own_b s.right_b l r.early k.left-b k.own-b k.right-b in
-      (rw r.sum-a fits-a, rw r.sum-b fits-b)
+-- a sum is small enough to be brought to 8 bits
+pub small-enough : {h i sum : ℕ} {s : Sums} → SmallSums s → h ≤ 4 → i ≤ 2 * h → sum ≡ across h s i → sum ≤ 288230376151711744
+small-enough {h} {i} {s = s} k l m e = rw e (sums-fit h i s.left s.own s.right l m k.left k.own k.right)
 
-  -- what a step asks of the sums of colour A, and of colour B
-  pub asked-a : SmallSums s → h ≤ 4 → i < 2 * h
-      → ((h ≤ 4) × (i < 2 * h) × (a ≡ across_a h s i)) × ((s.left_a ≤ most) × (s.own_a ≤ most) × (s.right_a ≤ most))
-  asked-a k l m = ((l, m, r.sum-a), (k.left-a, k.own-a, k.right-a))
-
-  pub asked-b : SmallSums s → h ≤ 4 → i < 2 * h
-      → ((h ≤ 4) × (i < 2 * h) × (b ≡ across_b h s i)) × ((s.left_b ≤ most) × (s.own_b ≤ most) × (s.right_b ≤ most))
-  asked-b k l m = ((l, m, r.sum-b), (k.left-b, k.own-b, k.right-b))
-
+module _ {h : ℕ} {a b : Sums} {f : ℕ → ℕ} {old : List ℕ} {at columns i sum-a sum-b : ℕ} {img : List ℕ}
+    (r : RowLaid h a b f old at columns i sum-a sum-b img) where
   -- one place more, where there is a column for it and where there is none
-  module _ {a' b' : ℕ} (l : i < 2 * h) (ea : a' ≡ across_a h s (i + 1)) (eb : b' ≡ across_b h s (i + 1)) where
-    pub word-laid : {v : ℕ} → v ≡ f i → i < columns → at + columns ≤ length old → RowLaid h s f old at columns (i + 1) a' b' (set img (at + i) v)
+  module _ {next-a next-b : ℕ} (l : i < 2 * h) (ea : next-a ≡ across h a (i + 1)) (eb : next-b ≡ across h b (i + 1)) where
+    pub word-laid : {v : ℕ} → v ≡ f i → i < columns → at + columns ≤ length old → RowLaid h a b f old at columns (i + 1) next-a next-b (set img (at + i) v)
     word-laid e c fits =
         let now : min i columns ≡ i = omega arith in
         let next : min (i + 1) columns ≡ i + 1 = omega arith in
-        record { early = omega arith; sum-a = ea; sum-b = eb; laid = rw next (row_word (rw now at r.laid) e c (omega arith)) }
+        record { early = omega arith; is-a = ea; is-b = eb; laid = rw next (row_word (rw now at r.laid) e c (omega arith)) }
 
-    pub word_cut : columns ≤ i → RowLaid h s f old at columns (i + 1) a' b' img
+    pub word_cut : columns ≤ i → RowLaid h a b f old at columns (i + 1) next-a next-b img
     word_cut c =
         let same : min i columns ≡ min (i + 1) columns = omega arith in
-        record { early = omega arith; sum-a = ea; sum-b = eb; laid = rw (← same) r.laid }
+        record { early = omega arith; is-a = ea; is-b = eb; laid = rw (← same) r.laid }
 
   -- all of them
   pub row-end : columns ≤ i → img ≡ painted at columns columns 1 (λ x y. f x) old
@@ -66,7 +54,19 @@ module _ {h : ℕ} {s : Sums} {f : ℕ → ℕ} {old : List ℕ} {at columns i a
       let all : min i columns ≡ columns = omega arith in
       (rw all at r.laid).is
 
--- a row of three small columns is small
-pub row_small : {left own right : Column} {j : ℕ} → SmallColumn left → SmallColumn own → SmallColumn right → j < 4 → SmallSums (sums_at left own right j)
-row_small p q r l =
-    record { left-a = p.a _ l; own-a = q.a _ l; right-a = r.a _ l; left-b = p.b _ l; own-b = q.b _ l; right-b = r.b _ l }
+-- a row of three small columns is small, in either colour
+module _ {left own right : Column} {j : ℕ} (p : SmallColumn left) (q : SmallColumn own) (r : SmallColumn right) (l : j < 4) where
+  pub row_small : SmallSums (sums_at left.a own.a right.a j) × SmallSums (sums_at left.b own.b right.b j)
+  row_small =
+      (record { left = p.a _ l; own = q.a _ l; right = r.a _ l }, record { left = p.b _ l; own = q.b _ l; right = r.b _ l })
+
+-- a texel, as it is made
+pub made : (h x y : ℕ) {m n : Meaning} {a b t : ℕ} → a ≡ fitted h x → b ≡ fitted h y → m ≡ n → t ≡ mixed_lanes a b m.weight m.keep
+    → t ≡ texel_lanes h x y n.weight n.keep
+unfolding texel_lanes
+made h x y ea eb em et = rw (ea, eb, em) at et
+
+-- half a block's width is one of two numbers
+pub half-small : {a h : ℕ} (two : Bool) → a ≡ h → h ≡ half two → (0 < a) × (a ≤ 4)
+half-small true e eh = omega arith
+half-small false e eh = omega arith

@@ -12,7 +12,7 @@ use Rattle.texel.specs.Inner.{side, sums_to}
 use Rattle.texel.specs.Summed.{shares, three}
 use Rattle.texel.specs.Texel.{Words, factor, share}
 use Rattle.word.specs.declared.PVRTCTexelColor.{PVRTCTexelColor}
-use Rattle.lanes.specs.Column.{most}
+use Rattle.lanes.specs.Column.{most, SmallSums}
 use Rattle.lanes.specs.Lanes.{lanes, color_lanes, shared}
 use Rattle.lanes.proofs.Lane.{sum_lanes}
 
@@ -72,10 +72,10 @@ module _ (h i l c r : ℕ) where
       moved : (a d e : ℕ) {a' b b' e' : ℕ} → a' ≡ a → b ≡ d + 1 → b' ≡ d → e' ≡ e + 1 → a' * l + b' * c + e' * r + c ≡ a * l + b * c + e * r + r
       moved a d e x y y' z = rw (x, y, y', z) (omega arith)
 
-  pub steps : {x : ℕ} → (h ≤ 4) × (i < 2 * h) × (x ≡ shared h i l c r) → (l ≤ most) × (c ≤ most) × (r ≤ most) → Step h i x l c r
+  pub steps : {x : ℕ} → (h ≤ 4) × (i < 2 * h) × (x ≡ shared h i l c r) → SmallSums (record { left = l; own = c; right = r }) → Step h i x l c r
   steps p q =
       record {
-        small = rw p.2 (sums-fit h i l c r p.0 (omega arith) q.0 q.1 q.2);
+        small = rw p.2 (sums-fit h i l c r p.0 (omega arith) q.left q.own q.right);
         left = λ k. step_left k ∙ ap (λ (n : ℕ). n + c) (sym p.2);
         right = λ k. step_right k p.1 ∙ ap (λ (n : ℕ). n + r) (sym p.2);
       }

@@ -1,5 +1,5 @@
 -- Where words stand: bits spread by masks, and an address as the sum of what its column and its row add. Assumes nothing.
-use mathlib.Core.Bool.{Bool}
+use mathlib.Core.Bool.{Bool, true, false}
 use mathlib.Core.Path.{◌≡◌, refl, sym, ap, ap₂, ◌∙◌}
 use Prim.Native.Nat.{ℕ, zero, suc, ◌+◌, ◌*◌, ◌/◌, ◌-◌, ◌≤◌, ◌<◌, min}
 use native.Mathlib.Omega.{arith}
@@ -11,7 +11,7 @@ use Rattle.grid.proofs.Spreading.{by-table}
 use Rattle.grid.proofs.Torus.{beside-own, last-before}
 use Rattle.grid.proofs.Words.{some-across, some-down, beside-in, placed-in, located}
 use Rattle.grid.specs.declared.Grid.{Grid}
-use Rattle.grid.specs.Grid.{block_width, blocks, log2, address, block_address, beside, spread_bits, Placed}
+use Rattle.grid.specs.Grid.{half, block_width, blocks, log2, address, block_address, beside, spread_bits, Placed}
 use Rattle.grid.specs.Words.{Stands}
 use Rattle.paint.specs.declared.Sheet.{Sheet}
 use Rattle.lanes.specs.declared.RowAddresses.{RowAddresses}
@@ -69,14 +69,9 @@ first-column {g} s = sym (beside-own g.across 0 (some-across s))
 pub last-column : {g : Grid} {len : ℕ} → Stands g len → g.across - 1 ≡ beside g.across 0 0
 last-column {g} s = sym (last-before g.across (some-across s))
 
--- v is what is read of column k = 0, 1, 2 beside block bx, round the torus, and is good
-pub record Seen {A : Type 0} (Good : A → Type 0) (read : ℕ → A) (side bx k : ℕ) (v : A) : Type 0 where
-  pub is : v ≡ read (beside side bx k)
-  pub good : Good v
-
--- what the column adds to an address
-abbrev pub SeenPart : Grid → RowAddresses → ℕ → ℕ → ℕ → Type 0
-SeenPart g row = Seen (λ part. Unit {0}) (λ x. address (log2 row.smaller) x 0) g.across
+-- part is what column k = 0, 1, 2 beside block bx, round the torus, adds to an address
+pub record SeenPart (g : Grid) (row : RowAddresses) (bx k part : ℕ) : Type 0 where
+  pub is : part ≡ address (log2 row.smaller) (beside g.across bx k) 0
 
 -- the address of the word in column x of the row above, own or below (0, 1, 2) row `by`, and in column i beside block bx
 abbrev pub place_in : Grid → (by x j : ℕ) → ℕ
@@ -90,6 +85,9 @@ pub record RowAt (g : Grid) (by len : ℕ) (row : RowAddresses) : Type 0 where
   pub words : Stands g len
   pub is : row ≡ addresses_of g by
 
+pub row-at : {g : Grid} {by len room : ℕ} {sheet : Sheet} {row : RowAddresses} → Ready g by sheet len room → row ≡ addresses_of g by → RowAt g by len row
+row-at r e = record { words = r.words; is = e }
+
 module _ {g : Grid} {by len : ℕ} {row : RowAddresses} (r : RowAt g by len row) where
   -- a column as the code names it, and what it adds
   module _ (bx k : ℕ) {x : ℕ} (ex : x ≡ beside g.across bx k) where
@@ -98,7 +96,7 @@ module _ {g : Grid} {by len : ℕ} {row : RowAddresses} (r : RowAt g by len row)
     placed-column = rw (r.is, ex) (placed-in r.words (record { across = (beside-in r.words bx by k 0).across; down = some-down r.words }) refl)
 
     pub part-seen : {part : ℕ} → part ≡ address (log2 row.smaller) x 0 → SeenPart g row bx k part
-    part-seen ep = record { is = ep ∙ ap (λ (x : ℕ). address (log2 row.smaller) x 0) ex; good = tt }
+    part-seen ep = record { is = ep ∙ ap (λ (x : ℕ). address (log2 row.smaller) x 0) ex }
 
   -- its words
   module _ {bx k part : ℕ} (p : SeenPart g row bx k part) where
@@ -126,7 +124,20 @@ module _ {g : Grid} {by len : ℕ} {row : RowAddresses} (r : RowAt g by len row)
     pub in-column : InColumn row part len
     in-column = record { above = word-above.1; own = word-own.1; below = word_below.1 }
 
+-- what reading column k beside block bx asks
+pub asked : {g : Grid} {by len : ℕ} {row : RowAddresses} → RowAt g by len row → (bx k : ℕ) {x : ℕ} → x ≡ beside g.across bx k
+    → Placed row.smaller x 0 × InColumn row (address (log2 row.smaller) x 0) len
+asked r bx k ex = (placed-column r bx k ex, in-column r (part-seen r bx k ex refl))
+
 -- a block that covers a row is one of the grid's
-pub covers : {g : Grid} {by : ℕ} {row : Sheet} {len room : ℕ} → Ready g by row len room → {two : Bool} → g.is2bpp ≡ two → {n bx : ℕ}
-    → n ≡ blocks (block_width two) row.width → bx < n → bx < g.across
-covers r e en h = omega (arith, rw e at r.cover, en, h)
+pub covers : {g : Grid} {by : ℕ} {row : Sheet} {len room : ℕ} → Ready g by row len room → {n bx : ℕ}
+    → n ≡ blocks (block_width g.is2bpp) row.width → bx < n → bx < g.across
+covers r en h = omega (arith, r.cover, en, h)
+
+-- a block as wide as that starts in the row
+pub starts : (two : Bool) {n bx w size : ℕ} → size ≡ block_width two → n ≡ blocks (block_width two) w → bx < n → bx * size < w
+starts true e en h = rw e (omega (arith, en, h))
+starts false e en h = rw e (omega (arith, en, h))
+
+pub width_is : {a h : ℕ} {b two : Bool} → a ≡ h → h ≡ half two → b ≡ two → 2 * a ≡ block_width b
+width_is ea eh eb = rw (ea, eh, eb)

@@ -65,7 +65,7 @@ four_same p q r s = cc
 
 -- the four rows of three words, as the code sums them
 module _ (u o e : ℕ) where
-  rows_are : (2 * u + 2 * o) ∷ (u + 3 * o) ∷ (4 * o) ∷ (3 * o + e) ∷ [] ≡ tab (λ y. shared 2 y u o e) 4
+  pub rows_are : (2 * u + 2 * o) ∷ (u + 3 * o) ∷ (4 * o) ∷ (3 * o + e) ∷ [] ≡ tab (λ y. shared 2 y u o e) 4
   unfolding tab shared share
   rows_are = four_same (omega arith) (omega arith) (omega arith) (omega arith)
 
@@ -81,12 +81,9 @@ module _ (order : ChannelOrder) (d : List ℕ) (above own below : ℕ) where
         b = rows-small _ _ _ (b-le order d above) (b-le order d own) (b-le order d below);
       }
 
-  pub summed-is : {x y z u v w : ℕ} → x ≡ lanes_a order d above → y ≡ lanes_a order d own → z ≡ lanes_a order d below
+  pub summed-is : {x y z u v w : ℕ} {p q : List ℕ} → x ≡ lanes_a order d above → y ≡ lanes_a order d own → z ≡ lanes_a order d below
       → u ≡ lanes_b order d above → v ≡ lanes_b order d own → w ≡ lanes_b order d below
-      → let k : Column = record {
-        a = (2 * x + 2 * y) ∷ (x + 3 * y) ∷ (4 * y) ∷ (3 * y + z) ∷ [];
-        b = (2 * u + 2 * v) ∷ (u + 3 * v) ∷ (4 * v) ∷ (3 * v + w) ∷ [];
-      } in (k ≡ column_of order d above own below) × SmallColumn k
+      → p ≡ tab (λ j. shared 2 j x y z) 4 → q ≡ tab (λ j. shared 2 j u v w) 4
+      → let k : Column = record { a = p; b = q } in (k ≡ column_of order d above own below) × SmallColumn k
   unfolding column_of
-  summed-is {x} {y} {z} {u} {v} {w} ex ey ez eu ev ew =
-      rw (rows_are x y z, rows_are u v w, ex, ey, ez, eu, ev, ew) (refl, small-column)
+  summed-is ex ey ez eu ev ew ep eq = rw (ep, eq, ex, ey, ez, eu, ev, ew) (refl, small-column)

@@ -1,13 +1,13 @@
 -- The window slides along a row of blocks, at either depth, and its texels are the grid's. Assumes nothing.
-use mathlib.Core.Path.{◌≡◌, refl, ap, ◌∙◌}
-use mathlib.Core.Bool.{Bool, true, false}
+use mathlib.Core.Path.{◌≡◌, refl, sym, ap, ◌∙◌}
+use mathlib.Core.Bool.{Bool}
 use mathlib.Core.List.{List}
 use Prim.Native.Nat.{ℕ, ◌+◌, ◌*◌, ◌%◌, ◌≤◌, ◌<◌}
 use native.Mathlib.Omega.{arith}
 use lib.ListN.{length}
 use Rattle.facts.proofs.Numbers.{split}
 use Rattle.grid.specs.declared.Grid.{Grid}
-use Rattle.grid.specs.Grid.{half, block_width, beside}
+use Rattle.grid.specs.Grid.{half, block_width, log2, address, beside}
 use Rattle.paint.proofs.Sheets.{columns-fit, BlocksLaid, next-block}
 use Rattle.paint.specs.declared.Sheet.{Sheet}
 use Rattle.paint.specs.Sheet.{on_sheet, columns_from, Fits}
@@ -15,78 +15,78 @@ use Rattle.pixel.specs.Pixel.{packed}
 use Rattle.pixel.specs.declared.ChannelOrder.{ChannelOrder}
 use Rattle.texel.proofs.Range.{words}
 use Rattle.texel.specs.Texel.{texel_in, texel_at, grid_texel}
-use Rattle.lanes.specs.declared.Codes.{Codes}
-use Rattle.lanes.specs.declared.Column.{Column}
-use Rattle.lanes.specs.declared.FillRule.{FillRule}
+use Rattle.lanes.specs.declared.Block.{Block}
+use Rattle.lanes.specs.declared.Meaning.{Meaning}
 use Rattle.lanes.specs.declared.RowAddresses.{RowAddresses}
-use Rattle.lanes.specs.declared.Weights.{Weights}
-use Rattle.lanes.specs.Block2bpp.{weight_rows, fill_rule_of, filled_rows, in_block_2bpp, LowRows}
-use Rattle.lanes.specs.Block4bpp.{codes_of, in_block_4bpp}
+use Rattle.lanes.specs.Block.{Said, Middle, in_block, block_of}
 use Rattle.lanes.specs.BlockRow.{Ready}
 use Rattle.lanes.specs.Column.{word_at, column_of, SmallColumn}
-use Rattle.lanes.proofs.Placing.{Seen, SeenPart, place_in, place_at, RowAt, word-above, word-own, word_below}
-use Rattle.lanes.proofs.Texel2bpp as texel-2bpp
-use Rattle.lanes.proofs.Texel4bpp as texel-4bpp
+use Rattle.lanes.proofs.Placing.{SeenPart, place_in, place_at, RowAt, part-seen, word-above, word-own, word_below}
+use Rattle.lanes.proofs.Window.{column_at, window-texel}
+
+-- v is what is read of column k = 0, 1, 2 beside block bx, round the torus, in row `by`
+module _ {M : Type 0} (stored : List ℕ → M) (Good : M → Type 0) (order : ChannelOrder) (g : Grid) (by : ℕ) (d : List ℕ) (row : RowAddresses) where
+  abbrev block_in : ℕ → Block M
+  block_in x =
+      record {
+        part = address (log2 row.smaller) x 0;
+        column = column_of order d (place_in g by x 0) (place_in g by x 1) (place_in g by x 2);
+        said = stored (word_at d (place_in g by x 1));
+      }
+
+  pub record SeenBlock (bx k : ℕ) (v : Block M) : Type 0 where
+    pub is : v ≡ block_in (beside g.across bx k)
+    pub small : SmallColumn v.column
+    pub good : Good v.said
+
+  -- the window before block bx, as the loop keeps it: the column before the block, and its own
+  pub record Window (bx : ℕ) (l o : Block M) : Type 0 where
+    pub left : SeenBlock bx 0 l
+    pub own : SeenBlock bx 1 o
+
+-- the nine words about block bx
+abbrev pub nine_about : Grid → (by : ℕ) → List ℕ → (bx : ℕ) → ℕ → ℕ → List ℕ
+nine_about g by d bx i j = word_at d (place_at g by bx i j)
+
+-- the code reads a column by what it adds to an address
+pub block-seen : {M : Type 0} (stored : List ℕ → M) (Good : M → Type 0) (order : ChannelOrder) (d : List ℕ) {g : Grid} {by len : ℕ} {row : RowAddresses}
+    → RowAt g by len row → (bx k : ℕ) {x : ℕ} {v : Block M} → x ≡ beside g.across bx k
+    → (v ≡ block_of stored order d row (address (log2 row.smaller) x 0)) × SmallColumn v.column × Good v.said
+    → SeenBlock stored Good order g by d row bx k v
+block-seen stored Good order d r bx k ex e =
+    let p = part-seen r bx k ex refl in
+    record { is = e.0 ∙ rw ((word-above r p).0, (word-own r p).0, (word_below r p).0, ex); small = e.1; good = e.2 }
+
+module _ {M : Type 0} {stored : List ℕ → M} {Good : M → Type 0} {order : ChannelOrder} {g : Grid} {by : ℕ} {d : List ℕ} {row : RowAddresses}
+    {bx k : ℕ} {v : Block M} (s : SeenBlock stored Good order g by d row bx k v) where
+  pub seen-part : SeenPart g row bx k v.part
+  seen-part = record { is = ap (λ (b : Block M). b.part) s.is }
+
+  pub said-is : v.said ≡ stored (nine_about g by d bx k 1)
+  said-is = ap (λ (b : Block M). b.said) s.is
+
+  pub column-is : v.column ≡ column_at order d (place_at g by bx) k
+  column-is = ap (λ (b : Block M). b.column) s.is
+
+-- the middle column of the nine words
+pub middle : {M : Type 0} {stored : List ℕ → M} {Good : M → Type 0} {order : ChannelOrder} {g : Grid} {by len : ℕ} {d : List ℕ} {row : RowAddresses}
+    {bx : ℕ} {v : Block M} → RowAt g by len row → SeenBlock stored Good order g by d row bx 1 v → Middle (nine_about g by d bx) d row v.part
+middle {d = d} r s =
+    let p = seen-part s in
+    let at = λ (z : ℕ). word_at d z in
+    record { above = sym (ap at (word-above r p).0); own = sym (ap at (word-own r p).0); below = sym (ap at (word_below r p).0) }
 
 -- a step of the window: the next block has it one column earlier
-pub slide : {A : Type 0} {Good : A → Type 0} {read : ℕ → A} {side bx : ℕ} {v : A} (k : ℕ) → Seen Good read side bx (k + 1) v → Seen Good read side (bx + 1) k v
-unfolding beside
-slide {read = read} {side = side} k s = record { is = s.is ∙ ap (λ (n : ℕ). read (n % side)) (omega arith); good = s.good }
+module _ {M : Type 0} {stored : List ℕ → M} {Good : M → Type 0} {order : ChannelOrder} {g : Grid} {by : ℕ} {d : List ℕ} {row : RowAddresses}
+    {bx : ℕ} where
+  earlier : (k : ℕ) {v : Block M} → SeenBlock stored Good order g by d row bx (k + 1) v → SeenBlock stored Good order g by d row (bx + 1) k v
+  unfolding beside
+  earlier k s =
+      record { is = s.is ∙ ap (λ (n : ℕ). block_in stored Good order g by d row (n % g.across)) (omega arith); small = s.small; good = s.good }
 
--- what is read of column x of row `by`: its three words, summed downwards, and its own word's codes, and weights
-module _ (g : Grid) (by : ℕ) (d : List ℕ) where
-  abbrev column_in : ChannelOrder → ℕ → Column
-  column_in order x = column_of order d (place_in g by x 0) (place_in g by x 1) (place_in g by x 2)
-
-  abbrev codes_in : ℕ → Codes
-  codes_in x = codes_of (word_at d (place_in g by x 1))
-
-  abbrev weights_in : ℕ → Weights
-  weights_in x = weight_rows (word_at d (place_in g by x 1))
-
-  abbrev pub SeenColumn : ChannelOrder → ℕ → ℕ → Column → Type 0
-  SeenColumn order = Seen SmallColumn (column_in order) g.across
-
-  abbrev pub SeenCodes : ℕ → ℕ → Codes → Type 0
-  SeenCodes = Seen (λ k. k.start ≤ 4) codes_in g.across
-
-  abbrev pub SeenWeights : ℕ → ℕ → Weights → Type 0
-  SeenWeights = Seen LowRows weights_in g.across
-
--- the window before block bx, as the loop keeps it, at 4bpp and at 2bpp: of the column before the block and of its own
-pub record Window4bpp (order : ChannelOrder) (g : Grid) (by : ℕ) (d : List ℕ) (bx : ℕ) (l o : Column) (k : Codes) : Type 0 where
-  pub left : SeenColumn g by d order bx 0 l
-  pub own : SeenColumn g by d order bx 1 o
-  pub codes : SeenCodes g by d bx 1 k
-
-pub record Window2bpp (order : ChannelOrder) (g : Grid) (by : ℕ) (d : List ℕ) (row : RowAddresses) (bx : ℕ)
-    (l o : Column) (wl wo : Weights) (q : ℕ) : Type 0 where
-  pub left : SeenColumn g by d order bx 0 l
-  pub own : SeenColumn g by d order bx 1 o
-  pub left-weights : SeenWeights g by d bx 0 wl
-  pub own-weights : SeenWeights g by d bx 1 wo
-  pub part : SeenPart g row bx 1 q
-
--- the code reads them by what the column adds to an address
-module _ {g : Grid} {by len bx k part : ℕ} {row : RowAddresses} (r : RowAt g by len row) (p : SeenPart g row bx k part) (d : List ℕ) where
-  abbrev three : {A : Type 0} → (ℕ → ℕ → ℕ → A) → A
-  three f = f (part + row.above) (part + row.own) (part + row.below)
-
-  words_are : {A : Type 0} (f : ℕ → ℕ → ℕ → A) → three f ≡ f (place_at g by bx k 0) (place_at g by bx k 1) (place_at g by bx k 2)
-  words_are f = rw ((word-above r p).0, (word-own r p).0, (word_below r p).0)
-
-  pub column-seen : (order : ChannelOrder) {v : Column} → (v ≡ three (column_of order d)) × SmallColumn v → SeenColumn g by d order bx k v
-  column-seen order e = record { is = e.0 ∙ words_are (column_of order d); good = e.1 }
-
-  pub codes-seen : {v : Codes} → (v ≡ codes_of (word_at d (part + row.own))) × (v.start ≤ 4) → SeenCodes g by d bx k v
-  codes-seen e = record { is = e.0 ∙ words_are (λ u o e. codes_of (word_at d o)); good = e.1 }
-
-  pub weights-seen : {v : Weights} → (v ≡ weight_rows (word_at d (part + row.own))) × LowRows v → SeenWeights g by d bx k v
-  weights-seen e = record { is = e.0 ∙ words_are (λ u o e. weight_rows (word_at d o)); good = e.1 }
-
-  pub rule-of : {v : FillRule} → v ≡ three (λ u o e. fill_rule_of (word_at d u) (word_at d o) (word_at d e))
-      → v ≡ fill_rule_of (word_at d (place_at g by bx k 0)) (word_at d (place_at g by bx k 1)) (word_at d (place_at g by bx k 2))
-  rule-of e = e ∙ words_are (λ u o e. fill_rule_of (word_at d u) (word_at d o) (word_at d e))
+  pub slide : {l o r : Block M} → Window stored Good order g by d row bx l o → SeenBlock stored Good order g by d row bx 2 r
+      → Window stored Good order g by d row (bx + 1) o r
+  slide w next = record { left = earlier 0 w.own; own = earlier 1 next }
 
 -- a texel of a block is a texel of the grid
 of-grid : (order : ChannelOrder) (g : Grid) (d : List ℕ) (bx by i j : ℕ) {two : Bool} → g.is2bpp ≡ two → i < block_width two → j < 4
@@ -98,21 +98,16 @@ of-grid order g d bx by i j {two} e hi hj =
     let y = split 4 (by * 4 + j) by j refl hj in
     rw (e, x.0, x.1, y.0, y.1)
 
--- the texels of the block between three columns are the grid's
-module _ (order : ChannelOrder) (g : Grid) (by bx : ℕ) (d : List ℕ) {l o r : Column} (right : SeenColumn g by d order bx 2 r) where
-  pub texels-4bpp : {k : Codes} → g.is2bpp ≡ false → Window4bpp order g by d bx l o k
-      → (i j : ℕ) → i < 4 → j < 4 → in_block_4bpp l o r k i j ≡ grid_texel order g d (bx * 4 + i) (by * 4 + j)
-  texels-4bpp e w i j hi hj =
-      rw (w.left.is, w.own.is, right.is, w.codes.is) (texel-4bpp.texel-is order d (place_at g by bx) i j hi hj ∙ of-grid order g d bx by i j e hi hj)
-
-  pub texels-2bpp : {row : RowAddresses} {wl wo wr filled : Weights} {q : ℕ} {rule : FillRule} → g.is2bpp ≡ true → Window2bpp order g by d row bx l o wl wo q
-      → SeenWeights g by d bx 2 wr
-      → rule ≡ fill_rule_of (word_at d (place_at g by bx 1 0)) (word_at d (place_at g by bx 1 1)) (word_at d (place_at g by bx 1 2))
-      → filled ≡ filled_rows wl wo wr rule → (i j : ℕ) → i < 8 → j < 4
-      → in_block_2bpp l o r filled i j ≡ grid_texel order g d (bx * 8 + i) (by * 4 + j)
-  texels-2bpp e w next er ef i j hi hj =
-      rw (w.left.is, w.own.is, right.is, ef, w.left-weights.is, w.own-weights.is, next.is, er)
-      (texel-2bpp.texel-is order d (place_at g by bx) i j hi hj ∙ of-grid order g d bx by i j e hi hj)
+-- the texels of the block between three columns are the grid's, where its modulation says what the definition says
+module _ {M : Type 0} {stored : List ℕ → M} {Good : M → Type 0} {order : ChannelOrder} {g : Grid} {by bx : ℕ} {d : List ℕ} {row : RowAddresses} {l o r : Block M}
+    (w : Window stored Good order g by d row bx l o) (right : SeenBlock stored Good order g by d row bx 2 r) where
+  pub texels : {h size : ℕ} {two : Bool} {says : ℕ → ℕ → Meaning} → h ≡ half two → size ≡ block_width two → g.is2bpp ≡ two
+      → Said two (nine_about g by d bx) says
+      → (i j : ℕ) → i < size → j < 4 → in_block h says l.column o.column r.column i j ≡ grid_texel order g d (bx * size + i) (by * 4 + j)
+  texels {two = two} eh es e said i j hi hj =
+      let wide : i < block_width two = rw es at hi in
+      rw (eh, es, column-is w.left, column-is w.own, column-is right)
+      (window-texel order two d (place_at g by bx) i j wide hj said ∙ of-grid order g d bx by i j e wide hj)
 
 -- the texels of the row, and that those of its first n blocks are laid on its sheet
 abbrev pub row_texel : ChannelOrder → Grid → ℕ → List ℕ → ℕ → ℕ → ℕ

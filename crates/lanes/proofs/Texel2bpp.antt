@@ -1,4 +1,4 @@
--- A texel of the window at 2bpp is the texel of the nine words. Assumes nothing.
+-- What a word's weights, filled, say at 2bpp is what the definition says. Assumes nothing.
 use mathlib.Core.Path.{◌≡◌, refl, sym, ap, ap₂, ◌∙◌}
 use mathlib.Core.Bool.{Bool, true, false, cond, ◌&&◌, not}
 use mathlib.Core.List.{List}
@@ -11,22 +11,18 @@ use Rattle.facts.proofs.Finite.{below}
 use Rattle.facts.proofs.Tab.{get_or-tab}
 use Rattle.facts.specs.Bits.{is_set}
 use Rattle.facts.specs.Tab.{tab}
-use Rattle.pixel.specs.Pixel.{packed}
-use Rattle.pixel.specs.declared.ChannelOrder.{ChannelOrder}
 use Rattle.texel.proofs.Range.{words, filled-le}
-use Rattle.texel.specs.Texel.{Words, near, filled, rule_at, punched, texel_in}
+use Rattle.texel.specs.Texel.{Words, near, filled, rule_at, punched}
 use Rattle.word.proofs.Bounds.{weights-2, never-punched}
 use Rattle.word.specs.declared.Fill.TheVariants.{Nothing, Around, AboveBelow, LeftRight}
 use Rattle.word.specs.Word.{modulation, mode, weight2bpp, fill2bpp, word_of}
 use Rattle.lanes.specs.declared.FillRule.{FillRule}
-use Rattle.lanes.specs.declared.Sums.{Sums}
 use Rattle.lanes.specs.declared.Weights.{Weights}
-use Rattle.lanes.specs.Column.{word_at, across_a, across_b}
-use Rattle.lanes.specs.Block2bpp.{in_bytes, weight_row, weight_rows, fill_rule_of, odds, evens, filled_at, filled_rows, in_row_2bpp, in_block_2bpp}
-use Rattle.lanes.specs.Lanes.{bytes, clear, texel_lanes}
+use Rattle.lanes.specs.Block.{Said}
+use Rattle.lanes.specs.Block2bpp.{in_bytes, weight_row, weight_rows, weight_meaning, fill_rule_of, odds, evens, filled_at, filled_rows}
+use Rattle.lanes.specs.Lanes.{bytes, clear}
 use Rattle.lanes.proofs.ByteLanes.{bytes_same, mask_of, fill_at, filled_is, byte_at}
 use Rattle.lanes.proofs.Texel4bpp.{mode-is}
-use Rattle.lanes.proofs.Window.{column_at, window-texel}
 
 -- a bit as a number
 bit-cond : (n : ℕ) → n < 2 → n ≡ cond (eqb n 1) 1 0
@@ -217,18 +213,8 @@ module _ (of : ℕ → ℕ → List ℕ) where
       none : (i : ℕ) → bytes ≡ cond (is_set 0 i) clear bytes
       none i = rw (zero-div (2 ^ i))
 
--- a texel of a row, from its two sums and its weight
-pub row-texel : (s : Sums) (w x : ℕ) {t a b : ℕ} → t ≡ texel_lanes 4 a b (w / 2 ^ (8 * x) % 16) bytes → a ≡ across_a 4 s x → b ≡ across_b 4 s x
-    → t ≡ in_row_2bpp s w x
-unfolding in_row_2bpp
-row-texel s w x et ea eb = rw (← ea, ← eb) et
-
--- a texel of the window, whatever the nine addresses are
-pub texel-is : (order : ChannelOrder) (d : List ℕ) (z : ℕ → ℕ → ℕ) (x y : ℕ) → x < 8 → y < 4
-    → in_block_2bpp (column_at order d z 0) (column_at order d z 1) (column_at order d z 2)
-    (filled_rows (weight_rows (word_at d (z 0 1))) (weight_rows (word_at d (z 1 1))) (weight_rows (word_at d (z 2 1)))
-    (fill_rule_of (word_at d (z 1 0)) (word_at d (z 1 1)) (word_at d (z 1 2)))) x y
-    ≡ packed order (texel_in 4 (words true (λ i j. word_at d (z i j))) x y)
-unfolding in_row_2bpp
-texel-is order d z x y hx hy =
-    window-texel order true d z x y hx hy _ _ (weight_is (λ i j. word_at d (z i j)) x y hx hy) (keep-is (λ i j. word_at d (z i j)) x y)
+-- of the middle one of nine words
+pub is_said : (of : ℕ → ℕ → List ℕ)
+    → let k = filled_rows (weight_rows (of 0 1)) (weight_rows (of 1 1)) (weight_rows (of 2 1)) (fill_rule_of (of 1 0) (of 1 1) (of 1 2)) in
+    Said true of (λ y. weight_meaning (get_or k.rows y 0))
+is_said of x y hx hy = (weight_is of x y hx hy, keep-is of x y)

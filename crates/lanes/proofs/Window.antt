@@ -1,6 +1,6 @@
 -- A window of three columns gives the sums of the nine words, at either depth. Assumes nothing.
 use mathlib.Core.Path.{◌≡◌, sym, ap, ◌∙◌}
-use mathlib.Core.Bool.{Bool, true, false, cond}
+use mathlib.Core.Bool.{Bool, true, false}
 use mathlib.Core.List.{List}
 use Prim.Native.Nat.{ℕ, ◌+◌, ◌*◌, ◌<◌}
 use native.Mathlib.Omega.{arith}
@@ -17,9 +17,11 @@ use Rattle.texel.proofs.Range.{words, filled-le}
 use Rattle.texel.proofs.Sums.{sums-low}
 use Rattle.word.proofs.Bounds.{color-a, color-b}
 use Rattle.lanes.specs.declared.Column.{Column}
+use Rattle.lanes.specs.declared.Meaning.{Meaning}
 use Rattle.lanes.specs.declared.Sums.{Sums}
-use Rattle.lanes.specs.Column.{word_at, lanes_a, lanes_b, column_of, sums_at, across_a, across_b}
-use Rattle.lanes.specs.Lanes.{bytes, clear, color_lanes, shared, texel_lanes}
+use Rattle.lanes.specs.Block.{Said, in_block}
+use Rattle.lanes.specs.Column.{word_at, lanes_a, lanes_b, column_of, sums_at, across}
+use Rattle.lanes.specs.Lanes.{color_lanes, shared}
 use Rattle.lanes.proofs.Lane.{sum_lanes, texel-lanes}
 use Rattle.lanes.proofs.Linear.{word_lanes, sums-are}
 
@@ -50,10 +52,6 @@ module _ (order : ChannelOrder) (two : Bool) (d : List ℕ) (z : ℕ → ℕ →
   unfolding lanes_b
   lanes-b i j = ap (color_lanes order) (sym (color-b two (word_at d (z i j))))
 
-  -- row y of the three columns
-  abbrev window_sums : ℕ → Sums
-  window_sums y = sums_at (column_at order d z 0) (column_at order d z 1) (column_at order d z 2) y
-
   module _ (x y : ℕ) (hx : x < block_width two) (hy : y < 4) where
     -- what the nine words' colour A, or B, sums to at the place
     abbrev totals : (second : Bool) → PVRTCTexelColorInt
@@ -66,24 +64,30 @@ module _ (order : ChannelOrder) (two : Bool) (d : List ℕ) (z : ℕ → ℕ →
         → shared (half two) x (get_or (k 0) y 0) (get_or (k 1) y 0) (get_or (k 2) y 0) ≡ sum_lanes order (totals second)
     summed second k e = rw (e 0, e 1, e 2) (sums-are order (half two) x y nine_at second)
 
-    sum-a : across_a (half two) (window_sums y) x ≡ sum_lanes order (totals false)
+    -- row y of the three columns, in colour A and in colour B
+    abbrev sums-a : Sums
+    sums-a = sums_at (column_at order d z 0).a (column_at order d z 1).a (column_at order d z 2).a y
+
+    abbrev sums-b : Sums
+    sums-b = sums_at (column_at order d z 0).b (column_at order d z 1).b (column_at order d z 2).b y
+
+    sum-a : across (half two) sums-a x ≡ sum_lanes order (totals false)
     sum-a = summed false (λ i. (column_at order d z i).a) (λ i. row-a order d (z i 0) (z i 1) (z i 2) y hy ∙ rw (lanes-a i 0, lanes-a i 1, lanes-a i 2))
 
-    sum-b : across_b (half two) (window_sums y) x ≡ sum_lanes order (totals true)
+    sum-b : across (half two) sums-b x ≡ sum_lanes order (totals true)
     sum-b = summed true (λ i. (column_at order d z i).b) (λ i. row-b order d (z i 0) (z i 1) (z i 2) y hy ∙ rw (lanes-b i 0, lanes-b i 1, lanes-b i 2))
 
     low : (second : Bool) → Low (8 * half two) (totals second)
     low second = sums-low (half two) nine_at second x y hx hy 9 (omega arith) (λ k l. small-side two second _)
 
-    -- a texel of the window, where the weight and what is kept are the definition's
-    pub window-texel : (w keep : ℕ) → w ≡ filled (half two) (rule_at (nine_at 1 1) x y) nine_at (x + block_width two) (y + 4)
-        → keep ≡ cond (punched (half two) (nine_at 1 1) x y) clear bytes
-        → texel_lanes (half two) (across_a (half two) (window_sums y) x) (across_b (half two) (window_sums y) x) w keep
-        ≡ packed order (texel_in (half two) nine_at x y)
+    -- a texel of the window, where what is said of it is the definition's
+    pub window-texel : {says : ℕ → ℕ → Meaning} → Said two (λ i j. word_at d (z i j)) says
+        → in_block (half two) says (column_at order d z 0) (column_at order d z 1) (column_at order d z 2) x y ≡ packed order (texel_in (half two) nine_at x y)
     unfolding texel_in mixed sums_to nine_sum
-    window-texel w keep ew ek =
+    window-texel said =
         let rule = rule_at (nine_at 1 1) x y in
-        rw (sum-a, sum-b, ew, ek)
+        let k = said x y hx hy in
+        rw (sum-a, sum-b, k.0, k.1)
         (texel-lanes order two (totals false) (totals true) (filled (half two) rule nine_at (x + block_width two) (y + 4))
         (punched (half two) (nine_at 1 1) x y)
         (low false) (low true) (filled-le two (λ i j. word_at d (z i j)) rule (x + block_width two) (y + 4)))

@@ -1,15 +1,13 @@
--- A block at 2bpp from the window: rows of weights as the bytes of one number. Assumes nothing: these are definitions.
+-- What a word's modulation says at 2bpp: rows of weights as the bytes of one number. Assumes nothing: these are definitions.
 use Rattle.std.specs.Prelude.{Bool, true, cond, ◌&&◌, ◌||◌, List, [], ◌∷◌, ℕ, ◌+◌, ◌-◌, ◌*◌, ◌/◌, ◌%◌, ◌^◌, ◌≤◌, ◌<◌, eqb, get_or}
 use Rattle.std.specs.Int.Bits.{bit_and}
 use Rattle.facts.specs.Bits.{is_set}
 use Rattle.facts.specs.Tab.{tab}
 use Rattle.word.specs.Word.{modulation, code, standard_weight, holds_code, adjusted, word_of}
-use Rattle.lanes.specs.declared.Column.{Column}
 use Rattle.lanes.specs.declared.FillRule.{FillRule}
-use Rattle.lanes.specs.declared.Sums.{Sums}
+use Rattle.lanes.specs.declared.Meaning.{Meaning}
 use Rattle.lanes.specs.declared.Weights.{Weights}
-use Rattle.lanes.specs.Column.{sums_at, across_a, across_b}
-use Rattle.lanes.specs.Lanes.{bytes, texel_lanes}
+use Rattle.lanes.specs.Lanes.{bytes}
 
 -- Numbers as the bytes of one, from the low end.
 abbrev pub row : List ℕ → ℕ
@@ -89,13 +87,9 @@ filled_at left own right rule y =
 unfoldable pub filled_rows : (left own right : Weights) → FillRule → Weights
 filled_rows left own right rule = record { rows = tab (filled_at left own right rule) 4 }
 
--- Texel x of a row, from its sums and its weights.
-unfoldable pub in_row_2bpp : Sums → (weights : ℕ) → ℕ → ℕ
-in_row_2bpp s weights x = texel_lanes 4 (across_a 4 s x) (across_b 4 s x) (weights / 2 ^ (8 * x) % 16) bytes
-
--- Texel (x, y) of the block between two columns.
-abbrev pub in_block_2bpp : (left own right : Column) → Weights → ℕ → ℕ → ℕ
-in_block_2bpp left own right k x y = in_row_2bpp (sums_at left own right y) (get_or k.rows y 0) x
+-- What a row of them says of texel x: nothing is punched through.
+abbrev pub weight_meaning : (weights : ℕ) → ℕ → Meaning
+weight_meaning weights x = record { weight = weights / 2 ^ (8 * x) % 16; keep = bytes }
 
 -- A row whose every byte is at most 8, as far as the sums need to know it.
 pub record LowRow (c : ℕ) : Type 0 where

@@ -28,24 +28,13 @@ column_of order d above own below =
       b = tab (λ y. shared 2 y (lanes_b order d above) (lanes_b order d own) (lanes_b order d below)) 4;
     }
 
--- Row y of three columns.
-abbrev pub sums_at : (left own right : Column) → ℕ → Sums
-sums_at left own right y =
-    record {
-      left_a = get_or left.a y 0;
-      own_a = get_or own.a y 0;
-      right_a = get_or right.a y 0;
-      left_b = get_or left.b y 0;
-      own_b = get_or own.b y 0;
-      right_b = get_or right.b y 0;
-    }
+-- Row y of three columns, in one colour.
+abbrev pub sums_at : (left own right : List ℕ) → ℕ → Sums
+sums_at left own right y = record { left = get_or left y 0; own = get_or own y 0; right = get_or right y 0 }
 
--- The sums of colour A at place x of a row of 2h texels, by their shares there, and of colour B.
-abbrev pub across_a : ℕ → Sums → ℕ → ℕ
-across_a h s x = shared h x s.left_a s.own_a s.right_a
-
-abbrev pub across_b : ℕ → Sums → ℕ → ℕ
-across_b h s x = shared h x s.left_b s.own_b s.right_b
+-- The sum at place x of a row of 2h texels, by their shares there.
+abbrev pub across : ℕ → Sums → ℕ → ℕ
+across h s x = shared h x s.left s.own s.right
 
 -- Eight times such a number fits a machine word with room to bring it to 8 bits.
 abbrev pub most : ℕ
@@ -56,11 +45,8 @@ pub record SmallColumn (k : Column) : Type 0 where
   pub a : (y : ℕ) → y < 4 → get_or k.a y 0 ≤ most
   pub b : (y : ℕ) → y < 4 → get_or k.b y 0 ≤ most
 
--- A row of three columns whose six numbers are so small.
+-- A row of three columns whose three numbers are so small.
 pub record SmallSums (s : Sums) : Type 0 where
-  pub left-a : s.left_a ≤ most
-  pub own-a : s.own_a ≤ most
-  pub right-a : s.right_a ≤ most
-  pub left-b : s.left_b ≤ most
-  pub own-b : s.own_b ≤ most
-  pub right-b : s.right_b ≤ most
+  pub left : s.left ≤ most
+  pub own : s.own ≤ most
+  pub right : s.right ≤ most

@@ -1,3 +1,4 @@
+pub mod Block
 pub mod Block2bpp
 pub mod Block4bpp
 pub mod BlockRow

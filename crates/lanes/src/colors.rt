@@ -2,31 +2,25 @@
 ghost use Rattle.std.specs.Prelude.{cond, ◌≡◌, ◌+◌, ◌*◌, ◌/◌, ◌%◌, ◌<◌, ◌≤◌, eqb, length, get_or};
 ghost use Rattle.word.specs.Word.{color_of, blue_a, blue_b};
 ghost use Rattle.lanes.specs.Lanes.{bytes, channel_lanes, color_lanes, widened, spread_of, fitted, mixed_lanes, shared, Mask};
-ghost use Rattle.lanes.specs.Column.{lanes_a, lanes_b, column_of, most, SmallColumn};
+ghost use Rattle.facts.specs.Tab.{tab};
+ghost use Rattle.lanes.specs.Column.{lanes_a, lanes_b, column_of, across, SmallColumn, SmallSums};
 
-use crate::Column;
+use crate::{Column, Sums};
 use pixel::ChannelOrder;
+
+const ONES: u64 = 0x0001000100010001;
 
 const BYTES: u64 = 0x00ff00ff00ff00ff;
 
 const TOP: u64 = 0xffff000000000000;
 
-// Sums of shares at 4bpp, brought to 8 bits.
-pub fn fit_4bpp(z: u64) -> u64
-    requires { z ≤ 288230376151711744 }
-    ensures { (result ≡ fitted 2 z) × (result ≤ bytes) }
+// Sums of shares over h, half a block's width, brought to 8 bits.
+pub fn fit(h: u64, z: u64) -> u64
+    requires { (0 < h) × (h ≤ 4) × (z ≤ 288230376151711744) }
+    ensures { (result ≡ fitted h z) × (result ≤ bytes) }
 {
-    let t = z & 0xfffefffefffefffe;
-    (33 * t + (t & TOP)) / 64 & BYTES
-}
-
-// The same at 2bpp.
-pub fn fit_2bpp(z: u64) -> u64
-    requires { z ≤ 288230376151711744 }
-    ensures { (result ≡ fitted 4 z) × (result ≤ bytes) }
-{
-    let t = z & 0xfffcfffcfffcfffc;
-    (33 * t + (t & TOP)) / 128 & BYTES
+    let t = z & (ONES * (65536 - h));
+    (33 * t + (t & TOP)) / (32 * h) & BYTES
 }
 
 // The blend of two at the weight w, as a word.
@@ -131,42 +125,57 @@ fn word_b(d: &[u8], z: usize, order: ChannelOrder) -> u64
     lane_b(half(d, 8 * z + 6), order)
 }
 
+// Rows 0 to 3 of a block, in one colour, of the words above it, its own and below it.
+fn downwards(above: u64, own: u64, below: u64) -> [u64; 4]
+    requires { (above ≤ 8725724278030336) × (own ≤ 8725724278030336) × (below ≤ 8725724278030336) }
+    ensures { result ≡ tab (λ y. shared 2 y above own below) 4 }
+{
+    [
+        2 * above + 2 * own,
+        above + 3 * own,
+        4 * own,
+        3 * own + below,
+    ]
+}
+
 // The column of the words at the addresses above a block, its own and below it.
 pub fn summed(d: &[u8], above: usize, own: usize, below: usize, order: ChannelOrder) -> Column
     requires { (8 * above + 8 ≤ length d.now) × (8 * own + 8 ≤ length d.now) × (8 * below + 8 ≤ length d.now) }
     ensures { (result ≡ column_of order d.now above own below) × SmallColumn result }
 {
-    let above_a = word_a(d, above, order);
-    let own_a = word_a(d, own, order);
-    let below_a = word_a(d, below, order);
-    let above_b = word_b(d, above, order);
-    let own_b = word_b(d, own, order);
-    let below_b = word_b(d, below, order);
     Column {
-        a: [
-            2 * above_a + 2 * own_a,
-            above_a + 3 * own_a,
-            4 * own_a,
-            3 * own_a + below_a,
-        ],
-        b: [
-            2 * above_b + 2 * own_b,
-            above_b + 3 * own_b,
-            4 * own_b,
-            3 * own_b + below_b,
-        ],
+        a: downwards(
+            word_a(d, above, order),
+            word_a(d, own, order),
+            word_a(d, below, order),
+        ),
+        b: downwards(
+            word_b(d, above, order),
+            word_b(d, own, order),
+            word_b(d, below, order),
+        ),
     }
 }
 
-// From the sum of shares at place i of 2h to the one at the next place.
-pub fn step(h: usize, i: usize, sum: u64, left: u64, own: u64, right: u64) -> u64
-    requires h_bound { (h ≤ 4) × (i < 2 * h) × (sum ≡ shared h i left own right) }
-    requires left_le_most { (left ≤ most) × (own ≤ most) × (right ≤ most) }
-    ensures { result ≡ shared h (i + 1) left own right }
-{
-    if i < h {
-        sum + own - left
-    } else {
-        sum + right - own
+impl Sums {
+    // The sum of shares at place 0 of 2h.
+    pub(crate) fn first(self, h: usize) -> u64
+        requires { (h ≤ 4) × SmallSums self }
+        ensures { result ≡ across h self 0 }
+    {
+        h as u64 * self.left + h as u64 * self.own
+    }
+
+    // From the one at place i to the one at the next place.
+    pub(crate) fn step(self, h: usize, i: usize, sum: u64) -> u64
+        requires h_bound { (h ≤ 4) × (i < 2 * h) × (sum ≡ across h self i) }
+        requires small { SmallSums self }
+        ensures { result ≡ across h self (i + 1) }
+    {
+        if i < h {
+            sum + self.own - self.left
+        } else {
+            sum + self.right - self.own
+        }
     }
 }

@@ -1,12 +1,14 @@
 // Rows of weights at 2bpp, as they are stored and as they are filled.
-ghost use Rattle.std.specs.Prelude.{false, cond, ◌≡◌, ◌+◌, ◌*◌, ◌/◌, ◌<◌, ◌≤◌, eqb, length};
+ghost use Rattle.std.specs.Prelude.{true, false, cond, ◌≡◌, ◌+◌, ◌*◌, ◌/◌, ◌<◌, ◌≤◌, eqb, length, get_or};
 ghost use Rattle.lanes.specs.Column.{word_at};
 ghost use Rattle.lanes.specs.Block2bpp.{bit_row, code_row, byte_row, weight_row, weight_rows, fill_rule_of, filled_row, filled_rows, LowRow, LowRows};
 ghost use Rattle.lanes.specs.Block2bpp.{FewTimes, LowRule};
-ghost use Rattle.lanes.specs.BlockRow.{InColumn};
+ghost use Rattle.lanes.specs.Block2bpp.{weight_meaning};
+ghost use Rattle.std.proofs.Common.{refl};
 
 use crate::colors::{byte, pick};
-use crate::{FillRule, RowAddresses, Weights};
+use crate::modulation::Modulation;
+use crate::{FillRule, Meaning, RowAddresses, Weights};
 
 // A byte's bits as weights of 0 and 8.
 fn bits_row(b: u64) -> u64
@@ -143,7 +145,7 @@ const ODDS: u64 = 0x0f000f000f000f00;
 const EVENS: u64 = 0x000f000f000f000f;
 
 // The four rows of a block, filled; left and right are the blocks to either side.
-pub fn fill_rows(left: Weights, own: Weights, right: Weights, rule: FillRule) -> Weights
+fn fill_rows(left: Weights, own: Weights, right: Weights, rule: FillRule) -> Weights
     requires { LowRows left × LowRows own × LowRows right × LowRule rule }
     ensures { result ≡ filled_rows left own right rule }
 {
@@ -162,20 +164,49 @@ pub fn fill_rows(left: Weights, own: Weights, right: Weights, rule: FillRule) ->
     }
 }
 
-// The weights of the block in the column that adds `part` to an address.
-pub fn weights_at(data: &[u8], row: RowAddresses, part: usize) -> Weights
-    requires { InColumn row part (length «data».now) }
-    ensures { (result ≡ weight_rows (word_at «data».now (part + row.own))) × LowRows result }
-{
-    read_rows(data, part + row.own)
-}
+impl Modulation for Weights {
+    type Row = u64;
 
-// How that block is filled.
-pub fn rule_at(data: &[u8], row: RowAddresses, part: usize) -> FillRule
-    requires { InColumn row part (length «data».now) }
-    ensures { (result
-        ≡ fill_rule_of (word_at «data».now (part + row.above)) (word_at «data».now (part + row.own)) (word_at «data».now (part + row.below)))
-        × LowRule result }
-{
-    read_rule(data, part + row.above, part + row.own, part + row.below)
+    const HALF: usize = 4;
+
+    ghost HALF = { 4 };
+
+    ghost two = { true };
+
+    ghost stored = { weight_rows };
+
+    ghost Good = { LowRows };
+
+    ghost row_of = { λ k y. get_or k.rows y 0 };
+
+    ghost says = { weight_meaning };
+
+    fn read(d: &[u8], z: usize) -> Weights {
+        read_rows(d, z)
+    }
+
+    fn fill(
+        left: Weights,
+        own: Weights,
+        right: Weights,
+        d: &[u8],
+        row: RowAddresses,
+        part: usize,
+    ) -> Weights {
+        let rule = read_rule(d, part + row.above, part + row.own, part + row.below);
+        fill_rows(left, own, right, rule)
+    }
+
+    fn row(self, j: usize) -> u64 {
+        self.rows[j]
+    }
+
+    fn meaning(row: u64, i: usize) -> Meaning {
+        Meaning {
+            weight: (row >> (8 * i)) % 16,
+            keep: 0x00ff00ff00ff00ff,
+        }
+    }
+
+    ghost half_is = { refl };
 }

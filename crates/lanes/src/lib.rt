@@ -2,11 +2,12 @@
 // row, each parsed once. The order of channels is that of the lanes: past the reading of a colour nothing asks for it.
 #![tactic(auto)]
 
+mod coding;
 mod colors;
 mod filling;
+mod modulation;
 mod places;
-mod row_2bpp;
-mod row_4bpp;
+mod row;
 
 ghost use Rattle.std.specs.Prelude.{◌≡◌, length};
 ghost use Rattle.lanes.specs.BlockRow.{Ready, with_block_row};
@@ -14,8 +15,6 @@ ghost use Rattle.lanes.specs.BlockRow.{Ready, with_block_row};
 use grid::Grid;
 use paint::Sheet;
 use pixel::ChannelOrder;
-pub use row_2bpp::decode_block_row_2bpp;
-pub use row_4bpp::decode_block_row_4bpp;
 
 // Three words of a column, the one above a block, its own and the one below, summed for rows 0 to 3 of the block: colour A and colour B.
 #[derive(Clone, Copy)]
@@ -24,15 +23,12 @@ pub struct Column {
     pub b: [u64; 4],
 }
 
-// One row of three columns, the one before a block, its own and the next one: colour A and colour B.
-#[derive(Clone, Copy)]
+// One row of three columns, the one before a block, its own and the next one, in one colour.
+#[derive(Clone, Copy, Debug, PartialEq, Eq)]
 pub struct Sums {
-    pub left_a: u64,
-    pub own_a: u64,
-    pub right_a: u64,
-    pub left_b: u64,
-    pub own_b: u64,
-    pub right_b: u64,
+    pub left: u64,
+    pub own: u64,
+    pub right: u64,
 }
 
 // The smaller side of the grid, and what the rows of blocks above, own and below add to an address.
@@ -44,11 +40,26 @@ pub struct RowAddresses {
     pub below: usize,
 }
 
-// A word's modulation, and where its mode starts in the two tables.
+// What a word's modulation says of a texel: the weight of colour B, and what is kept of the blend.
+#[derive(Clone, Copy, Debug, PartialEq, Eq)]
+pub struct Meaning {
+    pub weight: u64,
+    pub keep: u64,
+}
+
+// A column, what it adds to an address, and what the modulation of its own word says.
 #[derive(Clone, Copy)]
+pub struct Block<M> {
+    pub part: usize,
+    pub column: Column,
+    pub said: M,
+}
+
+// A word's codes at 4bpp, and whether its mode is 1.
+#[derive(Clone, Copy, Debug, PartialEq, Eq)]
 pub struct Codes {
     pub modulation: u64,
-    pub start: u64,
+    pub punches: bool,
 }
 
 // Four rows of eight weights, each weight a byte.
@@ -81,8 +92,8 @@ pub fn decode_block_row(
     ensures { image.new ≡ with_block_row order g by row «data».now image.old }
 {
     if g.is2bpp {
-        decode_block_row_2bpp(data, g, by, order, row, image);
+        row::decode_row::<Weights>(data, g, by, order, row, image);
     } else {
-        decode_block_row_4bpp(data, g, by, order, row, image);
+        row::decode_row::<Codes>(data, g, by, order, row, image);
     }
 }

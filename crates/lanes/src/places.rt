@@ -51,12 +51,11 @@ pub fn row_addresses(g: Grid, by: usize) -> RowAddresses
     ensures { result ≡ addresses_of g by }
 {
     let smaller = facts::least(g.across, g.down);
-    let table = grid::spread_table();
     RowAddresses {
         smaller: smaller,
-        above: grid::morton_index_by_table(&table, 0, grid::previous_block(by, g.down), smaller),
-        own: grid::morton_index_by_table(&table, 0, by, smaller),
-        below: grid::morton_index_by_table(&table, 0, grid::next_block(by, g.down), smaller),
+        above: grid::morton_index_by_table(0, grid::previous_block(by, g.down), smaller),
+        own: grid::morton_index_by_table(0, by, smaller),
+        below: grid::morton_index_by_table(0, grid::next_block(by, g.down), smaller),
     }
 }
 

@@ -1,4 +1,5 @@
 -- From what a header, the plate's levels and a size word say to the promise for a level of a file. Assumes nothing.
+use Rattle.std.proofs.Common.{Result, Ok, Err}
 use mathlib.Core.Path.{◌≡◌, refl, sym, ap, ◌∙◌}
 use mathlib.Core.Bool.{true, false}
 use mathlib.Core.List.{List, [], ◌++◌}
@@ -15,28 +16,23 @@ use Rattle.files.proofs.Fields.{data_is}
 use Rattle.pixel.specs.declared.ChannelOrder.{ChannelOrder}
 use Rattle.pvrtc.specs.Calls.{refusal, BlockDecoded}
 use Rattle.pvrtc.specs.Picture.{in_order}
+use Rattle.pvrtc.specs.Refusals as call
 use Rattle.pvrtc.specs.Refusals.{zero_side, large_side, outside, size_checks, checks}
 use Rattle.pvrtc.specs.declared.Call.TheVariants.{Block}
-use Rattle.pvrtc.specs.declared.Decoded.{Decoded as Called}
-use Rattle.pvrtc.specs.declared.Decoded.TheVariants as called
+use Rattle.pvrtc.specs.declared.Refusal.{Refusal as CallRefusal}
 use Rattle.pvrtc.specs.declared.Picture.{Picture}
 use Rattle.pvrtc.proofs.Accepted.{width_small, height-small, width_above, height-above}
 use Rattle.pvrtc.proofs.Orders.{refusal-in}
-use Rattle.levels.specs.declared.Decoded.{Decoded}
-use Rattle.levels.specs.declared.Decoded.TheVariants as decoded
-use Rattle.levels.specs.declared.Described.{Described}
-use Rattle.levels.specs.declared.Described.TheVariants as described
-use Rattle.levels.specs.declared.Found.{Found}
-use Rattle.levels.specs.declared.Found.TheVariants as found
 use Rattle.levels.specs.declared.Level.{Level}
 use Rattle.levels.specs.declared.Levels.{Levels}
 use Rattle.levels.specs.declared.Refusal.{Refusal}
 use Rattle.levels.specs.Calls.{described_number, described_level, Answered, LevelRead, LevelDecoded}
-use Rattle.levels.specs.Inner.{called_as, LevelsFound, Walks, picture_for, DecodedAt}
+use Rattle.levels.specs.Inner.{LevelsFound, Walks, picture_for, DecodedAt}
 use Rattle.levels.specs.Levels.{levels_in, plate_in, size_word_bytes, start_at, level_at, level_of, picture_of, level_data}
 use Rattle.levels.specs.Refusals.{most_levels, header_checks, count_checks, word_checks, size_word_checks, own_checks, level_checks, call_checks}
 use Rattle.levels.specs.Refusals.{level_refusal, decode_refusal, number_of, decoded_number, Says}
-use Rattle.levels.proofs.Answers.{number-above, same_number, of-refusal, of-levels, numbered-header}
+use Rattle.levels.specs.Numbers.{number-above}
+use Rattle.levels.proofs.Answers.{of-refusal, of-levels, numbered-header}
 use Rattle.levels.proofs.Halving.{halved-above, halved-small}
 use Rattle.levels.proofs.Ranges.{not-large, most-small, start-past}
 
@@ -47,35 +43,37 @@ unfolding first_of outside
 call-speaks p len room sides small = simp (sides, small)
 
 -- the picture and the data of a call may be replaced by equal ones
-moved : {p q : Picture} {d e old new : List ℕ} {s : Called} → p ≡ q → d ≡ e → BlockDecoded p d old new s → BlockDecoded q e old new s
+moved : {p q : Picture} {d e old new : List ℕ} {s : Result (Unit {0}) CallRefusal} → p ≡ q → d ≡ e → BlockDecoded p d old new s → BlockDecoded q e old new s
 moved ep ed b = rw (← ep, ← ed) b
 
 -- the block call on what the file has from the level's start on
-pub decoded-at : {order : ChannelOrder} (file : List ℕ) (level : Level) {start : ℕ} {p : Picture} {old new : List ℕ} {s : Called} {r : Decoded}
+pub decoded-at : {order : ChannelOrder} (file : List ℕ) (level : Level) {start : ℕ} {p : Picture} {old new : List ℕ}
+    {s : Result (Unit {0}) CallRefusal} {r : Result (Unit {0}) Refusal}
     → start ≡ min level.start (length file) → p ≡ in_order order (picture_for level)
-    → BlockDecoded p (take (length file - start) (drop start file)) old new s → r ≡ called_as s → DecodedAt order file level old new r
+    → BlockDecoded p (take (length file - start) (drop start file)) old new s → decoded_number r ≡ call.decoded_number s
+    → DecodedAt order file level old new r
 decoded-at {order} file level {start} {p} {old} {new} {s} at ep b q =
     let d = drop level.start file in
     let c : BlockDecoded (in_order order (picture_for level)) d old new s = moved ep (data_is file start level.start at) b in
     let e = refusal-in order (picture_for level) (Block (length old)) d in
-    record { number = ap decoded_number q ∙ same_number s ∙ c.number ∙ e; words = rw (← e) c.words }
+    record { number = q ∙ c.number ∙ e; words = rw (← e) c.words }
 
 -- a description that refuses, and one that gives a level
 module _ {n : ℕ} {level : Level} where
-  pub by-refusal : {f : Refusal} → number_of f ≡ n → Answered n level (described.Refused f)
+  pub by-refusal : {f : Refusal} → number_of f ≡ n → Answered n level (Err f)
   by-refusal {f} e =
       let other : eqb n 0 ≡ false = ne_eqb n 0 (omega (arith, number-above f)) in
       record { number = e; given = rw other refl }
 
-  pub by_level : {m : Level} → 0 ≡ n → m ≡ level → Answered n level (described.Level m)
+  pub by_level : {m : Level} → 0 ≡ n → m ≡ level → Answered n level (Ok m)
   by_level e q = record { number = e; given = rw (← e) q }
 
   -- and what either gives
-  module _ {r : Described} (a : Answered n level r) where
-    pub of-refused : {f : Refusal} → r ≡ described.Refused f → number_of f ≡ n
+  module _ {r : Result Level Refusal} (a : Answered n level r) where
+    pub of-refused : {f : Refusal} → r ≡ Err f → number_of f ≡ n
     of-refused e = sym (ap described_number e) ∙ a.number
 
-    pub of-level : {m : Level} → r ≡ described.Level m → (0 ≡ n) × (m ≡ level)
+    pub of-level : {m : Level} → r ≡ Ok m → (0 ≡ n) × (m ≡ level)
     of-level e =
         let none : 0 ≡ n = sym (ap described_number e) ∙ a.number in
         (none, sym (ap described_level e) ∙ a.given ∙ rw (← none) refl)
@@ -98,17 +96,17 @@ module _ (file : List ℕ) (l : Levels) (k : ℕ) where
   word-before e = omega (arith, start-past l k, ap size_word_bytes e)
 
 -- the plate's levels speak first, then the size word
-module _ (file : List ℕ) (l : Levels) (k : ℕ) (r : Decoded) (says : Says r (size_checks (plate_in l) ++ count_checks l k)) where
+module _ (file : List ℕ) (l : Levels) (k : ℕ) (r : Result (Unit {0}) Refusal) (says : Says r (size_checks (plate_in l) ++ count_checks l k)) where
   abbrev first : List Check
   first = size_checks (plate_in l) ++ count_checks l k
 
-  abbrev Own : Described → Type 0
+  abbrev Own : Result Level Refusal → Type 0
   Own d = Answered (first_of (own_checks file l k)) (level_at l k) d
 
-  pub by-levels : {f : Refusal} → r ≡ decoded.Refused f → Own (described.Refused f)
+  pub by-levels : {f : Refusal} → r ≡ Err f → Own (Err f)
   by-levels {f} e = by-refusal (said-first first (size_word_checks file l k) tt (sym (ap decoded_number e) ∙ says) (number-above f))
 
-  module _ (done : r ≡ decoded.Done) where
+  module _ (done : r ≡ (Ok tt)) where
     none : 0 ≡ first_of first
     none = sym (ap decoded_number done) ∙ says
 
@@ -125,19 +123,19 @@ module _ (file : List ℕ) (l : Levels) (k : ℕ) (r : Decoded) (says : Says r (
     few low = omega (arith, most-small l (walks low), ltb-false (most_levels l) l.count (refused_none 20), leb-false l.count k (refused_none 19))
 
     module _ {m : Level} (is : m ≡ level_at l k) where
-      pub unsized : l.sized ≡ false → Own (described.Level m)
+      pub unsized : l.sized ≡ false → Own (Ok m)
       unsized e = by_level (said-later first (size_word_checks file l k) tt none (rw (no_words file l k e) none_left)) is
 
-      module _ (sized : l.sized ≡ true) (s : Decoded) (word : Says s (word_checks file m)) where
+      module _ (sized : l.sized ≡ true) (s : Result (Unit {0}) Refusal) (word : Says s (word_checks file m)) where
         from-word : {n : ℕ} → n ≡ decoded_number s → n ≡ first_of (own_checks file l k)
         from-word e =
             said-later first (size_word_checks file l k) tt none
             (e ∙ word ∙ ap (λ (c : Level). first_of (word_checks file c)) is ∙ ap first_of (sym (words_of file l k sized)))
 
-        pub by_word : {f : Refusal} → s ≡ decoded.Refused f → Own (described.Refused f)
+        pub by_word : {f : Refusal} → s ≡ Err f → Own (Err f)
         by_word e = by-refusal (from-word (sym (ap decoded_number e)))
 
-        pub past_word : s ≡ decoded.Done → Own (described.Level m)
+        pub past_word : s ≡ (Ok tt) → Own (Ok m)
         past_word e = by_level (from-word (sym (ap decoded_number e))) is
 
 -- where the header refuses nothing, it is these that speak
@@ -145,14 +143,14 @@ module _ (file : List ℕ) (k : ℕ) where
   own-speaks : 0 ≡ first_of (header_checks file) → first_of (own_checks file (levels_in file) k) ≡ level_refusal file k
   own-speaks e = said-later (header_checks file) (own_checks file (levels_in file) k) (numbered-header file) e refl
 
-  module _ {r : Found} (b : LevelsFound file r) where
-    pub by-header : {f : Refusal} → r ≡ found.Refused f → LevelRead file k (described.Refused f)
+  module _ {r : Result Levels Refusal} (b : LevelsFound file r) where
+    pub by-header : {f : Refusal} → r ≡ Err f → LevelRead file k (Err f)
     by-header {f} e = by-refusal (said-first (header_checks file) _ (numbered-header file) (of-refusal b e) (number-above f))
 
-    pub start-found : {l : Levels} → r ≡ found.Levels l → l.start < 4294967360
+    pub start-found : {l : Levels} → r ≡ Ok l → l.start < 4294967360
     start-found e = (of-levels b e).2
 
-    pub by-own : {l : Levels} {d : Described} → r ≡ found.Levels l → Answered (first_of (own_checks file l k)) (level_at l k) d → LevelRead file k d
+    pub by-own : {l : Levels} {d : Result Level Refusal} → r ≡ Ok l → Answered (first_of (own_checks file l k)) (level_at l k) d → LevelRead file k d
     by-own e a =
         let got = of-levels b e in
         rw (own-speaks got.0) at (rw got.1 at a)
@@ -209,8 +207,8 @@ module _ (file : List ℕ) (k : ℕ) where
   pub level-accepted : (room : ℕ) → decode_refusal file k room ≡ 0 → level_refusal file k ≡ 0
   level-accepted room e = (neither-said (level_checks file k) (call_checks (picture_of file k) (length (level_data file k)) room) numbered-level e).0
 
-  pub as-block : {order : ChannelOrder} {old new : List ℕ} → LevelDecoded order file k old new decoded.Done
-      → BlockDecoded (in_order order (picture_of file k)) (level_data file k) old new called.Done
+  pub as-block : {order : ChannelOrder} {old new : List ℕ} → LevelDecoded order file k old new (Ok tt)
+      → BlockDecoded (in_order order (picture_of file k)) (level_data file k) old new (Ok tt)
   as-block {order} {old} a =
       let room = length old in
       let speaks =
@@ -218,15 +216,15 @@ module _ (file : List ℕ) (k : ℕ) where
       record { number = a.number ∙ speaks; words = rw (← speaks) a.words }
 
   -- from a description to the level's picture
-  module _ {old : List ℕ} {d : Described} (a : LevelRead file k d) where
-    pub not-described : {order : ChannelOrder} {f : Refusal} → d ≡ described.Refused f → LevelDecoded order file k old old (decoded.Refused f)
+  module _ {old : List ℕ} {d : Result Level Refusal} (a : LevelRead file k d) where
+    pub not-described : {order : ChannelOrder} {f : Refusal} → d ≡ Err f → LevelDecoded order file k old old (Err f)
     not-described {f = f} e =
         let first : number_of f ≡ level_refusal file k = of-refused a e in
         let number : number_of f ≡ decode_refusal file k (length old) = said-first (level_checks file k) _ numbered-level first (number-above f) in
         let other : eqb (decode_refusal file k (length old)) 0 ≡ false = ne_eqb (decode_refusal file k (length old)) 0 (omega (arith, number-above f)) in
         record { number = number; words = rw other refl }
 
-    pub as-described : {order : ChannelOrder} {level : Level} {new : List ℕ} {r : Decoded} → d ≡ described.Level level → DecodedAt order file level old new r
+    pub as-described : {order : ChannelOrder} {level : Level} {new : List ℕ} {r : Result (Unit {0}) Refusal} → d ≡ Ok level → DecodedAt order file level old new r
         → LevelDecoded order file k old new r
     as-described {order} {level} {new} {r} e b =
         let got = of-level a e in

@@ -1,6 +1,6 @@
 -- What the functions inside ask and promise one another. Assumes nothing: these are definitions.
-use Rattle.std.specs.Prelude.{◌≡◌, Bool, false, cond, List, ℕ, ◌+◌, ◌≤◌, ◌<◌, eqb, length, drop}
-use Rattle.facts.specs.Checks.{Check, first_of}
+use Rattle.std.specs.Prelude.{◌≡◌, Bool, false, cond, List, ℕ, ◌+◌, ◌≤◌, ◌<◌, eqb, length, drop, Result, Ok, Err}
+use Rattle.facts.specs.Checks.{Check, first_of, number_said}
 use Rattle.paint.specs.Sheet.{on_sheet}
 use Rattle.pvr.specs.Header as pvr
 use Rattle.pixel.specs.declared.ChannelOrder.{ChannelOrder}
@@ -9,17 +9,11 @@ use Rattle.pvrtc.specs.Calls.{refusal}
 use Rattle.pvrtc.specs.Picture.{picture, in_order, sheet_of, picture_texel}
 use Rattle.pvrtc.specs.Refusals.{need}
 use Rattle.pvrtc.specs.declared.Call.TheVariants.{Block}
-use Rattle.pvrtc.specs.declared.Decoded.{Decoded as Called}
-use Rattle.pvrtc.specs.declared.Decoded.TheVariants as called
 use Rattle.pvrtc.specs.declared.GridMode.TheVariants.{Stored}
 use Rattle.pvrtc.specs.declared.Picture.{Picture}
-use Rattle.levels.specs.declared.Decoded.{Decoded}
-use Rattle.levels.specs.declared.Decoded.TheVariants as decoded
-use Rattle.levels.specs.declared.Found.{Found}
-use Rattle.levels.specs.declared.Found.TheVariants as found
 use Rattle.levels.specs.declared.Level.{Level}
 use Rattle.levels.specs.declared.Levels.{Levels}
-use Rattle.levels.specs.declared.Refusal.TheVariants as why
+use Rattle.levels.specs.declared.Refusal.{Refusal}
 use Rattle.levels.specs.Levels.{pvr_levels, ktx_levels, levels_in, halved_once, size_word_bytes, taken_by}
 use Rattle.levels.specs.Refusals.{ktx_header_checks, header_checks, number_of, decoded_number}
 
@@ -28,35 +22,29 @@ abbrev pub no_levels : Levels
 no_levels = record { width = 0; height = 0; is2bpp = false; count = 0; start = 0; sized = false }
 
 -- The number that a header says: 0 for none.
-abbrev pub found_number : Found → ℕ
-found_number (found.Levels l) = 0
-found_number (found.Refused f) = number_of f
+abbrev pub found_number : Result Levels Refusal → ℕ
+found_number = number_said number_of
 
 -- The levels that it gives: none where it refuses.
-abbrev pub found_levels : Found → Levels
-found_levels (found.Levels l) = l
-found_levels (found.Refused f) = no_levels
+abbrev pub found_levels : Result Levels Refusal → Levels
+found_levels (Ok l) = l
+found_levels (Err f) = no_levels
 
 -- Finding the levels l behind a header with these checks: its number, and where that is 0 the levels. They start below 2^32 + 64.
-pub record FoundBehind (checks : List Check) (l : Levels) (r : Found) : Type 0 where
+pub record FoundBehind (checks : List Check) (l : Levels) (r : Result Levels Refusal) : Type 0 where
   pub number : found_number r ≡ first_of checks
   pub levels : found_levels r ≡ cond (eqb (first_of checks) 0) l no_levels
   pub low : (found_levels r).start < 4294967360
 
 -- Finding those of a PVR file, of a KTX file, and of a file of either kind.
-abbrev pub PvrFound : List ℕ → Found → Type 0
+abbrev pub PvrFound : List ℕ → Result Levels Refusal → Type 0
 PvrFound file r = FoundBehind (pvr.header_checks file) (pvr_levels file) r
 
-abbrev pub KtxFound : List ℕ → Found → Type 0
+abbrev pub KtxFound : List ℕ → Result Levels Refusal → Type 0
 KtxFound file r = FoundBehind (ktx_header_checks file) (ktx_levels file) r
 
-abbrev pub LevelsFound : List ℕ → Found → Type 0
+abbrev pub LevelsFound : List ℕ → Result Levels Refusal → Type 0
 LevelsFound file r = FoundBehind (header_checks file) (levels_in file) r
-
--- The block call's answer as that of a level.
-abbrev pub called_as : Called → Decoded
-called_as called.Done = decoded.Done
-called_as (called.Refused f) = decoded.Refused (why.Picture f)
 
 -- The need of a picture with these sides, in the stored grid.
 abbrev pub need_of : (width height : ℕ) → Bool → ℕ
@@ -102,7 +90,7 @@ abbrev pub picture_for : Level → Picture
 picture_for level = picture level.width level.height level.is2bpp Stored BlueFirst
 
 -- Decoding a described level in an order of channels: the block call on the bytes from its start on.
-pub record DecodedAt (order : ChannelOrder) (file : List ℕ) (level : Level) (old new : List ℕ) (r : Decoded) : Type 0 where
+pub record DecodedAt (order : ChannelOrder) (file : List ℕ) (level : Level) (old new : List ℕ) (r : Result (Unit {0}) Refusal) : Type 0 where
   pub number : decoded_number r ≡ refusal (picture_for level) (Block (length old)) (drop level.start file)
   pub words : new
       ≡ cond (eqb (refusal (picture_for level) (Block (length old)) (drop level.start file)) 0)

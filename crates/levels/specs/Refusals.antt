@@ -1,6 +1,7 @@
 -- What is refused of a level, as document 02 says it (W5). Assumes nothing: these are definitions.
-use Rattle.std.specs.Prelude.{◌≡◌, Bool, cond, not, List, [], ◌∷◌, ◌++◌, ℕ, suc, ◌-◌, max, eqb, ltb, leb, length}
-use Rattle.facts.specs.Checks.{Check, check, first_of}
+use Rattle.std.specs.Prelude.{◌≡◌, Bool, cond, not, List, [], ◌∷◌, ◌++◌, ℕ, suc, ◌-◌, max, eqb, ltb, leb, length, Result}
+use Rattle.facts.specs.Checks.{Check, check, first_of, number_said}
+use Rattle.facts.specs.Checks as said
 use Rattle.files.specs.Fields.{u32_at}
 use Rattle.grid.specs.Grid.{log2}
 use Rattle.pvr.specs.Header as pvr
@@ -10,8 +11,6 @@ use Rattle.pvrtc.specs.Refusals as call
 use Rattle.pvrtc.specs.Refusals.{size_checks, data_checks, room_checks, grid_checks}
 use Rattle.pvrtc.specs.declared.Call.TheVariants.{Block}
 use Rattle.pvrtc.specs.declared.Picture.{Picture}
-use Rattle.levels.specs.declared.Decoded.{Decoded}
-use Rattle.levels.specs.declared.Decoded.TheVariants as decoded
 use Rattle.levels.specs.declared.Level.{Level}
 use Rattle.levels.specs.declared.Levels.{Levels}
 use Rattle.levels.specs.declared.Refusal.{Refusal}
@@ -91,10 +90,9 @@ number_of NoSuchLevel = 19
 number_of OtherSize = 36
 
 -- The number that an answer says: 0 for none.
-abbrev pub decoded_number : Decoded → ℕ
-decoded_number decoded.Done = 0
-decoded_number (decoded.Refused f) = number_of f
+abbrev pub decoded_number : Result (Unit {0}) Refusal → ℕ
+decoded_number = number_said number_of
 
 -- An answer says what a list of checks says.
-abbrev pub Says : Decoded → List Check → Type 0
-Says r l = decoded_number r ≡ first_of l
+abbrev pub Says : Result (Unit {0}) Refusal → List Check → Type 0
+Says = said.Says number_of

@@ -2,29 +2,22 @@
 ghost use Rattle.std.specs.Prelude.{◌≡◌};
 ghost use Rattle.levels.specs.Calls.{LevelDecoded};
 ghost use Rattle.levels.specs.Inner.{DecodedAt};
-ghost use Rattle.levels.specs.Refusals.{decoded_number};
 
-use crate::check::{as_called, refusal_number};
 use crate::reader::read_level;
-use crate::{Decoded, Described, Level};
+use crate::{Level, Refusal};
 use pixel::ChannelOrder;
 use pvrtc::GridMode;
 
-// The number that decoding a level says: 0 for none.
-pub fn decoded_number(d: Decoded) -> u64
-    ensures { result ≡ decoded_number d }
-{
-    match d {
-        Decoded::Done => 0,
-        Decoded::Refused(f) => refusal_number(f),
-    }
-}
-
 // The picture of a described level: the block call on the bytes from its start on. A level that starts past the end has none.
-fn decode_at(file: &[u8], level: Level, order: ChannelOrder, image: &mut [u32]) -> Decoded
+fn decode_at(
+    file: &[u8],
+    level: Level,
+    order: ChannelOrder,
+    image: &mut [u32],
+) -> Result<(), Refusal>
     ensures { DecodedAt order file.now level image.old image.new result }
 {
-    let start = facts::least(level.start, file.len());
+    let start = level.start.min(file.len());
     let p = pvrtc::picture_of(
         level.width,
         level.height,
@@ -32,17 +25,19 @@ fn decode_at(file: &[u8], level: Level, order: ChannelOrder, image: &mut [u32]) 
         GridMode::Stored,
         order,
     );
-    as_called(pvrtc::decode_picture(&file[start..], p, image))
+    pvrtc::decode_picture(&file[start..], p, image).map_err(Refusal::Picture)
 }
 
 // Level k of a file into lent words, as the block call writes it in the stored mode and this order of channels; or the first refusal whose
 // condition holds.
-pub fn decode_level(file: &[u8], k: usize, order: ChannelOrder, image: &mut [u32]) -> Decoded
+pub fn decode_level(
+    file: &[u8],
+    k: usize,
+    order: ChannelOrder,
+    image: &mut [u32],
+) -> Result<(), Refusal>
     ensures { LevelDecoded order file.now k image.old image.new result }
 {
-    let described = read_level(file, k);
-    match described {
-        Described::Level(level) => decode_at(file, level, order, image),
-        Described::Refused(f) => Decoded::Refused(f),
-    }
+    let level = read_level(file, k)?;
+    decode_at(file, level, order, image)
 }

@@ -12,7 +12,7 @@ use pvrtc::GridMode;
 fn halved(side: usize) -> usize
     ensures { result ≡ halved_once side }
 {
-    if side < 2 { 1 } else { side / 2 }
+    (side / 2).max(1)
 }
 
 // How many levels a plate may have whose longer side is this: the first, and one for each halving down to 1.
@@ -20,13 +20,7 @@ pub fn most_levels(side: usize) -> usize
     requires { side ≤ 65536 }
     ensures { result ≡ suc (log2 side) }
 {
-    let mut rest = side;
-    let mut levels = 1;
-    while rest > 1 {
-        rest = rest / 2;
-        levels = levels + 1;
-    }
-    levels
+    side.max(1).ilog2() as usize + 1
 }
 
 // The bytes that a level of these sides needs, in the stored grid of these sides. The order has no part in it.
@@ -64,12 +58,11 @@ fn first_level(l: Levels) -> Level
     requires { Walks l }
     ensures { result ≡ first_level l }
 {
-    let start = l.start + size_word_bytes(l.sized);
     Level {
         width: l.width,
         height: l.height,
         is2bpp: l.is2bpp,
-        start: start,
+        start: l.start + size_word_bytes(l.sized),
         need: need_of(l.width, l.height, l.is2bpp),
     }
 }
@@ -84,11 +77,11 @@ fn next_level(sized: bool, level: Level) -> Level
     let end = level.start + taken_by(sized, level.need);
     let start = end + size_word_bytes(sized);
     Level {
-        width: width,
-        height: height,
-        is2bpp: level.is2bpp,
-        start: start,
+        width,
+        height,
+        start,
         need: need_of(width, height, level.is2bpp),
+        ..level
     }
 }
 

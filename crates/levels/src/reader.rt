@@ -8,36 +8,26 @@ ghost use Rattle.levels.specs.Refusals.{own_checks};
 use crate::check::{check_levels, check_size_word};
 use crate::kinds::read_levels;
 use crate::place::level_at;
-use crate::{Decoded, Described, Found, Levels};
+use crate::{Level, Levels, Refusal};
 
 // Level k of the levels that a file has, or the first refusal whose condition holds: by the sides, the number of levels, the size word.
-fn describe(file: &[u8], l: Levels, k: usize) -> Described
+fn describe(file: &[u8], l: Levels, k: usize) -> Result<Level, Refusal>
     requires { l.start < 4294967360 }
     ensures { Answered (first_of (own_checks file.now l k)) (level_at l k) result }
 {
-    let levels = check_levels(l, k);
-    if let Decoded::Refused(f) = levels {
-        return Described::Refused(f);
-    }
+    check_levels(l, k)?;
     let level = level_at(l, k);
-    if !l.sized {
-        return Described::Level(level);
+    if l.sized {
+        check_size_word(file, level)?;
     }
-    let word = check_size_word(file, level);
-    match word {
-        Decoded::Done => Described::Level(level),
-        Decoded::Refused(f) => Described::Refused(f),
-    }
+    Ok(level)
 }
 
 // Level k of a file: its sides and depth, where its bytes start and how many it needs; or the first refusal whose condition holds, as far
 // as its size word.
-pub fn read_level(file: &[u8], k: usize) -> Described
+pub fn read_level(file: &[u8], k: usize) -> Result<Level, Refusal>
     ensures { LevelRead file.now k result }
 {
-    let found = read_levels(file);
-    match found {
-        Found::Levels(l) => describe(file, l, k),
-        Found::Refused(f) => Described::Refused(f),
-    }
+    let levels = read_levels(file)?;
+    describe(file, levels, k)
 }

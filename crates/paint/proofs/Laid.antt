@@ -1,12 +1,7 @@
 -- How a rectangle grows: by a word, by columns, by rows. Assumes nothing.
-use mathlib.Core.Path.{◌≡◌, refl, sym, ap, ap₂, ◌∙◌}
-use mathlib.Core.List.{List}
-use mathlib.Core.Logic.{⊎_elim}
-use Prim.Native.Nat.{ℕ, ◌+◌, ◌-◌, ◌*◌, ◌<◌, ◌≤◌}
-use native.Mathlib.Nat.{mul-le-mul_right}
-use native.Mathlib.Omega.{arith}
-use lib.ListN.{length, get_or, set, length-set}
-use lib.Seq.{get_or-set_same, get_or-set_other}
+use Rattle.std.proofs.Common.{◌≡◌, refl, sym, ap, ap₂, ◌∙◌, List, ⊎_elim, ℕ, ◌+◌, ◌-◌, ◌*◌, ◌<◌, ◌≤◌, mul-le-mul_right, arith, length, get_or, set, ◌++◌, take, drop, length-take}
+use Rattle.std.proofs.Common.{length-set, get_or-set_same, get_or-set_other}
+use Rattle.std.proofs.lemmas.Grind.{elements}
 use Rattle.facts.proofs.Numbers.{lt-or-le}
 use Rattle.paint.specs.Paint.{painted}
 use Rattle.paint.proofs.Painted.{Outside, same_place, length-painted, painted-in, painted-out, is-painted, painted-none, painted_same}
@@ -198,6 +193,43 @@ pub row-part : {f : ℕ → ℕ → ℕ} {old : List ℕ} {start stride n j : �
     → start + (j * stride + n) ≤ length old → at ≡ start + j * stride → new ≡ painted at n n 1 (λ x y. f x j) img → Part f old start stride n (j + 1) new
 row-part {f} {old} {start} {stride} {n} {j} {img} {new} {at} r l m ea e =
     part-is l (e ∙ ap₂ (λ (k : ℕ) (i : List ℕ). painted k n n 1 (λ x y. f x j) i) ea r.is ∙ row_more start stride n j f old l m)
+
+-- words put in the place of as many lay one row
+put : (to n : ℕ) (f : ℕ → ℕ → ℕ) (mid old : List ℕ) → to + n ≤ length old → length mid ≡ n → ((x : ℕ) → x < n → get_or mid x 0 ≡ f x 0)
+    → take to old ++ (mid ++ drop n (drop to old)) ≡ painted to n n 1 f old
+put to n f mid old fits long same =
+    is-painted to n n 1 (omega arith) f old (take to old ++ (mid ++ drop n (drop to old))) (grind (arith, elements)) new rest
+  where
+    first : length (take to old) ≡ to
+    first = omega (arith, length-take to old)
+
+    new : (x y : ℕ) → x < n → y < 1 → to + (y * n + x) < length old → get_or (take to old ++ (mid ++ drop n (drop to old))) (to + (y * n + x)) 0 ≡ f x y
+    new x y hx hy l =
+        let zero : y ≡ 0 = omega arith in
+        rw zero (grind (arith, elements, first, same x hx))
+
+    rest : (k : ℕ) → Outside to n n 1 k → get_or (take to old ++ (mid ++ drop n (drop to old))) k 0 ≡ get_or old k 0
+    rest k out =
+        ⊎_elim
+        (λ before. grind (arith, elements, first))
+        (λ after.
+        ⊎_elim
+        (λ within. absurd (out (k - to) 0 (omega arith) (omega arith) (omega arith)))
+        (λ behind. grind (arith, elements, first))
+        (lt-or-le k (to + n)))
+        (lt-or-le k to)
+
+-- a row copied from a buffer
+pub copied-part : {f : ℕ → ℕ → ℕ} {old : List ℕ} {start stride n j : ℕ} {img mid : List ℕ} {m k : ℕ} (buffer : List ℕ) (from : ℕ)
+    → Part f old start stride n j img → n ≤ stride → start + (j * stride + n) ≤ length old → from + n ≤ length buffer
+    → ((x : ℕ) → x < n → get_or buffer (from + x) 0 ≡ f x j) → mid ≡ take m (drop from buffer) → m ≡ n → k ≡ n
+    → Part f old start stride n (j + 1) (take (start + j * stride) img ++ (mid ++ drop k (drop (start + j * stride) img)))
+copied-part {f} {old} {start} {stride} {n} {j} {img} {mid} buffer from r l room fits same e em ek =
+    let long : length mid ≡ n = ap length e ∙ grind (arith, elements) in
+    row-part r l room refl
+    (rw ek
+    (put (start + j * stride) n (λ x y. f x j) mid img (omega (arith, r.len)) long
+    (λ x h. ap (λ (t : List ℕ). get_or t x 0) e ∙ grind (arith, elements, same x h))))
 
 -- more columns, and more rows
 pub columns-part : {f : ℕ → ℕ → ℕ} {old : List ℕ} {start stride c r : ℕ} {img new : List ℕ} (m : ℕ) → Part f old start stride c r img → c + m ≤ stride

@@ -1,15 +1,9 @@
 -- Laws of a painted rectangle. Assumes nothing.
-use mathlib.Core.Path.{◌≡◌, refl, sym, ap, ap₂, ◌∙◌}
-use mathlib.Core.Bool.{Bool, true, false, ◌&&◌, false≢true}
-use mathlib.Core.List.{List, ◌++◌}
-use mathlib.Core.Logic.{⊎_elim}
-use Prim.Native.Nat.{ℕ, ◌+◌, ◌-◌, ◌*◌, ◌/◌, ◌%◌, ◌<◌, ◌≤◌}
-use native.Mathlib.Nat.{div-add-mod', div-lt_iff_lt-mul, mod-lt, mul-le-mul_right, not-suc-le-zero}
-use native.Mathlib.Omega.{arith}
-use lib.Dec.{leb, ltb}
-use lib.ListN.{length, get_or, drop, length-append, length-drop, get_or-eq_default}
-use lib.Seq.{ext_get_or, get_or-drop, get_or-append-add}
-use borrow.Author.Tests.{leb-true, le-leb, ltb-true, lt-ltb}
+use Rattle.std.proofs.Common.{◌≡◌, refl, sym, ap, ap₂, ◌∙◌, Bool, true, false, ◌&&◌, List, ◌++◌, ⊎_elim, ℕ, ◌+◌, ◌-◌, ◌*◌, ◌/◌, ◌%◌, ◌<◌, ◌≤◌, div-add-mod'}
+use Rattle.std.proofs.Common.{div-lt_iff_lt-mul, mod-lt, mul-le-mul_right, not-suc-le-zero, arith, leb, ltb, length, get_or, drop, length-append}
+use Rattle.std.proofs.Common.{length-drop, ext_get_or, get_or-drop, get_or-append-add, leb-true, le-leb, ltb-true, lt-ltb}
+use mathlib.Core.Bool.{false≢true}
+use lib.ListN.{get_or-eq_default}
 use Rattle.facts.specs.Tab.{tab}
 use Rattle.facts.proofs.Numbers.{lt-or-le, split}
 use Rattle.facts.proofs.Tab.{length-tab, get_or-tab, tab-front}

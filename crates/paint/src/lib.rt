@@ -21,9 +21,8 @@ pub fn rows_from(s: Sheet, y: usize, count: usize) -> Sheet
 {
     Sheet {
         start: s.start + y * s.stride,
-        stride: s.stride,
-        width: s.width,
-        height: facts::least(count, s.height - y),
+        height: count.min(s.height - y),
+        ..s
     }
 }
 
@@ -34,19 +33,8 @@ pub fn columns_from(s: Sheet, x: usize, count: usize) -> Sheet
 {
     Sheet {
         start: s.start + x,
-        stride: s.stride,
-        width: facts::least(count, s.width - x),
-        height: s.height,
-    }
-}
-
-// Lays n words of the buffer, from word `from` on, into the image from word `to` on.
-fn copy_words(buffer: &[u32; 32], from: usize, image: &mut [u32], to: usize, n: usize)
-    requires { (from + n ≤ 32) × (to + n ≤ length image.old) }
-    ensures { image.new ≡ painted to n n 1 (λ x y. get_or buffer.now (from + x) 0) image.old }
-{
-    for i in 0..n {
-        image[to + i] = buffer[from + i];
+        width: count.min(s.width - x),
+        ..s
     }
 }
 
@@ -56,12 +44,8 @@ pub fn copy_block_buffer(buffer: &[u32; 32], bw: usize, part: Sheet, image: &mut
     ensures { image.new ≡ on_sheet part (λ x y. get_or buffer.now (y * bw + x) 0) image.old }
 {
     for j in 0..part.height {
-        copy_words(
-            buffer,
-            j * bw,
-            image,
-            part.start + j * part.stride,
-            part.width,
-        );
+        let from = j * bw;
+        let to = part.start + j * part.stride;
+        image[to..to + part.width].copy_from_slice(&buffer[from..from + part.width]);
     }
 }

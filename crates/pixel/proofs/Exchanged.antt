@@ -1,7 +1,5 @@
 -- The order of channels: each order's word is the other's with two bytes exchanged. Assumes nothing.
-use mathlib.Core.Path.{◌≡◌, sym, ◌∙◌}
-use Prim.Native.Nat.{ℕ, ◌+◌, ◌*◌, ◌/◌, ◌%◌, ◌<◌}
-use native.Mathlib.Omega.{arith}
+use Rattle.std.proofs.Common.{◌≡◌, sym, ◌∙◌, ℕ, ◌+◌, ◌*◌, ◌/◌, ◌%◌, ◌<◌, arith}
 use Rattle.pixel.specs.Pixel.{Pixel, word, packed, exchanged, EightBits, Exchanging}
 use Rattle.pixel.specs.declared.ChannelOrder.{ChannelOrder}
 use Rattle.pixel.specs.declared.ChannelOrder.TheVariants.{BlueFirst, RedFirst}

@@ -15,7 +15,7 @@ pub enum ChannelOrder {
 fn word_of(first: u8, second: u8, third: u8, fourth: u8) -> u32
     ensures { result ≡ word first second third fourth }
 {
-    first as u32 + 256 * (second as u32) + 65536 * (third as u32) + 16777216 * (fourth as u32)
+    u32::from_le_bytes([first, second, third, fourth])
 }
 
 // The word of a texel, in an order.

@@ -28,14 +28,13 @@ pub fn decode_row(data: &[u8], p: Picture, y: usize, row: &mut [u32]) -> Result<
     ensures { RowDecoded p «data».now y row.old row.new result }
 {
     check(p, Call::Row { y, room: row.len() }, data.len())?;
-    let table = grid::spread_table();
     let g = grid_of(p);
     let width = grid::block_width(g.is2bpp);
-    let mut nine = texel::first_words(&table, data, g, g.across - 1, y / 4, y % 4);
+    let mut nine = texel::first_words(data, g, g.across - 1, y / 4, y % 4);
     let mut texels = [0u32; 8];
     for x in 0..p.width {
         if x % width == 0 {
-            nine = texel::next_words(&table, data, g, nine, x / width, y / 4, y % 4);
+            nine = texel::next_words(data, g, nine, x / width, y / 4, y % 4);
             texel::texels_in(nine, g.is2bpp, 0, y % 4, width, p.order, &mut texels);
         }
         // By the checks above no texel of the row is refused.

@@ -1,11 +1,6 @@
 -- Summed down and then across, the nine words give the texel's sums. Assumes nothing.
-use mathlib.Core.Path.{◌≡◌, ap, ◌∙◌}
-use mathlib.Core.Bool.{Bool, true, false}
-use mathlib.Core.List.{List, [], ◌++◌}
-use Prim.Native.Nat.{ℕ, zero, suc, ◌+◌, ◌-◌, ◌*◌, ◌/◌, ◌%◌, ◌≤◌, ◌<◌}
-use native.Mathlib.Nat.{mul-le-mul, not-suc-le-zero, zero-add, add-zero}
-use native.Mathlib.Omega.{arith}
-use lib.ListN.{get_or, drop}
+use Rattle.std.proofs.Common.{◌≡◌, refl, ap, ◌∙◌, Bool, true, false, List, [], ◌++◌, ℕ, zero, suc, ◌+◌, ◌*◌, ◌/◌, ◌%◌, ◌≤◌, ◌<◌, mul-le-mul, not-suc-le-zero}
+use Rattle.std.proofs.Common.{add-zero, arith, get_or, drop}
 use Rattle.facts.specs.Sum.{sum}
 use Rattle.facts.specs.Tab.{tab}
 use Rattle.facts.proofs.Tab.{get_or-tab, tab-front, tab-same}
@@ -18,15 +13,23 @@ use Rattle.word.specs.declared.PVRTCTexelInfo.{PVRTCTexelInfo}
 use Rattle.texel.specs.declared.Columns.{Columns}
 use Rattle.texel.specs.declared.PVRTCTexelColorInt.{PVRTCTexelColorInt}
 use Rattle.texel.specs.declared.Window.{Window}
-use Rattle.word.specs.declared.Fill.{Fill}
-use Rattle.word.specs.declared.Fill.TheVariants.{Nothing, Around, AboveBelow, LeftRight}
-use Rattle.texel.specs.Texel.{share, factor, Words, nine_sum, blend, near, filled, rule_at, punched, mixed, texel_in}
-use Rattle.texel.specs.Inner.{blank, nine_of, side, sums_to, to_bytes, pixel, SmallColors, Read, Low}
-use Rattle.texel.specs.Summed.{shares, share_rows, three, weighed, widened, column_of, window_of, across_of, weights_of, only_weights, texel_by}
-use Rattle.texel.specs.Summed.{with_texels, FewShares, LowColumns, LowWindow, LowWeights}
-use Rattle.texel.proofs.Shares.{half-low, half_high, share-le, share-total}
+use Rattle.texel.specs.Texel.{share, factor, Words, nine_sum, blend, punched, mixed, texel_in}
+use Rattle.texel.specs.Inner.{nine_of, side, sums_to, to_bytes, pixel, SmallColors, Low}
+use Rattle.texel.specs.Summed.{shares, share_rows, three, weighed, widened, column_of, window_of, across_of, texel_by}
+use Rattle.texel.specs.Summed.{with_texels, FewShares, LowColumns, LowWindow}
+use Rattle.texel.specs.declared.summing.TheConstants.{INTERP_WEIGHT_X, INTERP_WEIGHT_Y}
+use Rattle.texel.proofs.Shares.{half_high, share-le, share-total}
 
--- row p of the table
+-- the rows of the tables in the code are the shares, which the checker computes
+pub wide-is : INTERP_WEIGHT_X ≡ share_rows 4
+unfolding share_rows tab share
+wide-is = refl
+
+pub narrow-is : INTERP_WEIGHT_Y ≡ share_rows 2
+unfolding share_rows tab share
+narrow-is = refl
+
+-- row p of a table
 pub row_at : (h p : ℕ) {table : List (List ℕ)} → table ≡ share_rows h → p < 2 * h → get_or table p [] ≡ shares h p
 unfolding share_rows
 row_at h p e l = ap (λ (t : List (List ℕ)). get_or t p []) e ∙ get_or-tab (shares h) (2 * h) p [] l
@@ -40,14 +43,6 @@ few-shares h p lh l = record { few = few }
     few (suc zero) m = omega (arith, share-le h p 1 l)
     few (suc (suc zero)) m = omega (arith, share-le h p 2 l)
     few (suc (suc (suc k))) m = absurd (not-suc-le-zero {n = k} (omega arith))
-
--- the three words of a column
-pub column-is : (nine : List PVRTCTexelInfo) (second : Bool) (i : ℕ) (row : List ℕ) {p q s r : PVRTCTexelColorInt}
-    → p ≡ widened (side second (get_or nine i blank)) → q ≡ widened (side second (get_or nine (3 + i) blank))
-    → s ≡ widened (side second (get_or nine (6 + i) blank))
-    → r ≡ weighed row p q s → r ≡ column_of (nine_of nine) second i row
-unfolding column_of
-column-is nine second i row ep eq es er = rw (er, ep, eq, es, zero-add i)
 
 -- three numbers of at most m by the shares of a place
 three-le : (h p m a b c : ℕ) → p < 2 * h → a ≤ m → b ≤ m → c ≤ m → three (shares h p) a b c ≤ m * (2 * h)
@@ -75,13 +70,6 @@ weighed-low h p t x y z l lx ly lz =
 
 pub widened-low : (c : PVRTCTexelColor) → Small c → Low 1 (widened c)
 widened-low c s = record { r = omega (arith, s.r); g = omega (arith, s.g); b = omega (arith, s.b); a = omega (arith, s.a) }
-
--- so a word's colour has room to spare
-pub color-low : (nine : List PVRTCTexelInfo) (second : Bool) (k : ℕ) {c : PVRTCTexelColorInt} → SmallColors nine → k < 9
-    → c ≡ widened (side second (get_or nine k blank)) → Low 4 c
-color-low nine second k small l e =
-    let s = small second k l in
-    rw e (record { r = omega (arith, s.r); g = omega (arith, s.g); b = omega (arith, s.b); a = omega (arith, s.a) })
 
 -- three small colours summed down
 pub column-low : (nine : List PVRTCTexelInfo) (second : Bool) (i py : ℕ) → SmallColors nine → i < 3 → py < 4
@@ -162,72 +150,23 @@ blend-same : (h : ℕ) (hole : Bool) {s s' t t' : PVRTCTexelColorInt} {w w' : �
     → blend (pixel (to_bytes h s)) (pixel (to_bytes h t)) w hole ≡ blend (pixel (to_bytes h s')) (pixel (to_bytes h t')) w' hole
 blend-same h hole es et ew = rw (es, et, ew)
 
--- the weights of nine words, by their place
-pub weights-at : (nine : List PVRTCTexelInfo) (k : ℕ) → k < 9 → get_or (weights_of nine) k [] ≡ (get_or nine k blank).weight
-unfolding weights_of
-weights-at nine k l = get_or-tab (λ k. (get_or nine k blank).weight) 9 k [] l
-
-module _ (two : Bool) (nine : List PVRTCTexelInfo) where
-  -- so a weight of the nine blocks is the word's
-  near_same : (x y : ℕ) → x < 3 * block_width two → y < 12 → near (half two) (only_weights (weights_of nine)) x y ≡ near (half two) (nine_of nine) x y
-  unfolding near
-  near_same x y lx ly =
-      ap (λ (l : List ℕ). get_or l (block_width two * (y % 4) + x % block_width two) 0) (weights-at nine (3 * (y / 4) + x / block_width two) (below two lx))
-    where
-      below : (two : Bool) → x < 3 * block_width two → 3 * (y / 4) + x / block_width two < 9
-      below true l = omega arith
-      below false l = omega arith
-
-  module _ (px py : ℕ) (lx : px < block_width two) (ly : py < 4) where
-    abbrev x : ℕ
-    x = px + block_width two
-
-    abbrev y : ℕ
-    y = py + 4
-
-    at : (i j : ℕ) → i ≤ px + block_width two + 1 → j ≤ py + 5 → near (half two) (only_weights (weights_of nine)) i j ≡ near (half two) (nine_of nine) i j
-    at i j li lj = near_same i j (omega (arith, half-low two)) (omega arith)
-
-    filled-same : (f : Fill) → filled (half two) f (only_weights (weights_of nine)) x y ≡ filled (half two) f (nine_of nine) x y
-    unfolding filled
-    filled-same Nothing = at x y (omega arith) (omega arith)
-    filled-same Around =
-        rw (
-          at x (y - 1) (omega arith) (omega arith),
-          at x (y + 1) (omega arith) (omega arith),
-          at (x - 1) y (omega arith) (omega arith),
-          at (x + 1) y (omega arith) (omega arith),
-        )
-    filled-same AboveBelow = rw (at x (y - 1) (omega arith) (omega arith), at x (y + 1) (omega arith) (omega arith))
-    filled-same LeftRight = rw (at (x - 1) y (omega arith) (omega arith), at (x + 1) y (omega arith) (omega arith))
-
-    -- the texel from its window and the weights about it is the texel of the nine words
-    pub by-window : texel_by (half two) (weights_of nine) (nine_of nine 1 1) (window_of (nine_of nine) (shares 2 py)) px py
-        ≡ texel_in (half two) (nine_of nine) px py
-    unfolding texel_by texel_in mixed sums_to nine_sum
-    by-window =
-        blend-same (half two) (punched (half two) (nine_of nine 1 1) px py) (across-is (half two) px py (nine_of nine) false)
-        (across-is (half two) px py (nine_of nine) true)
-        (filled-same (rule_at (nine_of nine 1 1) px py))
-
-pub weights-low : (two : Bool) (nine : List PVRTCTexelInfo) → Read two nine → LowWeights two (weights_of nine)
-weights-low two nine read =
-    record { low = λ k i l m. rw (weights-at nine k l) (read.low k i l m) }
+-- the texel from its window is the texel of the nine words
+pub by-window : (two : Bool) (nine : Words) (px py : ℕ) → texel_by (half two) nine (window_of nine (shares 2 py)) px py ≡ texel_in (half two) nine px py
+unfolding texel_by texel_in mixed sums_to nine_sum
+by-window two nine px py =
+    blend-same (half two) (punched (half two) (nine 1 1) px py) (across-is (half two) px py nine false) (across-is (half two) px py nine true) refl
 
 -- lent words with the texels of a block's row, from its window
-pub with-texels : (order : ChannelOrder) (two : Bool) (nine : List PVRTCTexelInfo) (px py count : ℕ) (old : List ℕ) {weights : List (List ℕ)} {row new : List ℕ}
-    {window : Window} {own : PVRTCTexelInfo}
-    → px + count ≤ block_width two → py < 4 → weights ≡ weights_of nine → row ≡ shares 2 py → window ≡ window_of (nine_of nine) row → own ≡ nine_of nine 1 1
-    → new ≡ tab (λ i. packed order (texel_by (half two) weights own window (px + i) py)) count ++ drop count old
-    → new ≡ with_texels order two nine px py count old
+pub with-texels : (order : ChannelOrder) (two : Bool) (nine : List PVRTCTexelInfo) (px py count : ℕ) (old : List ℕ) {row : List ℕ} {window : Window}
+    → row ≡ shares 2 py → window ≡ window_of (nine_of nine) row
+    → tab (λ i. packed order (texel_by (half two) (nine_of nine) window (px + i) py)) count ++ drop count old ≡ with_texels order two nine px py count old
 unfolding with_texels
-with-texels order two nine px py count old lx ly ew er ei eo e =
-    e
-    ∙ rw (ew, ei, er, eo)
+with-texels order two nine px py count old er ei =
+    rw (ei, er)
     (ap (λ (l : List ℕ). l ++ drop count old)
-    (tab-same (λ i. packed order (texel_by (half two) (weights_of nine) (nine_of nine 1 1) (window_of (nine_of nine) (shares 2 py)) (px + i) py))
+    (tab-same (λ i. packed order (texel_by (half two) (nine_of nine) (window_of (nine_of nine) (shares 2 py)) (px + i) py))
     (λ i. packed order (texel_in (half two) (nine_of nine) (px + i) py)) count
-    (λ i l. ap (packed order) (by-window two nine (px + i) py (omega arith) ly))))
+    (λ i l. ap (packed order) (by-window two (nine_of nine) (px + i) py))))
 
 -- the first of them
 pub first-texel : (order : ChannelOrder) (two : Bool) (nine : List PVRTCTexelInfo) (px py : ℕ) (old : List ℕ) {new : List ℕ}

@@ -1,10 +1,6 @@
 -- Laws of scaling and of the blend. Assumes nothing.
-use mathlib.Core.Path.{◌≡◌, ap}
-use mathlib.Core.Bool.{Bool, true, false, cond}
-use mathlib.Core.Logic.{⊎_elim}
-use Prim.Native.Nat.{ℕ, ◌+◌, ◌-◌, ◌*◌, ◌/◌, ◌≤◌, ◌<◌, min, max}
-use native.Mathlib.Nat.{mul-le-mul_right, mul-add}
-use native.Mathlib.Omega.{arith}
+use Rattle.std.proofs.Common.{◌≡◌, sym, subst, ap, Bool, true, false, cond, ⊎_elim, ℕ, ◌+◌, ◌-◌, ◌*◌, ◌/◌, ◌^◌, ◌∙◌, ◌≤◌, ◌<◌, min, max, mul-le-mul_right, mul-add, arith}
+use Rattle.std.specs.Int.{from_bool}
 use Rattle.facts.proofs.Numbers.{lt-or-le}
 use Rattle.grid.specs.Grid.{half}
 use Rattle.pixel.specs.Pixel.{EightBits}
@@ -32,30 +28,16 @@ between a b w l =
 pub blend-byte : (a b w : ℕ) → w ≤ 8 → a < 256 → b < 256 → blended a b w < 256
 blend-byte a b w l ha hb = omega (arith, between a b w l)
 
--- the two products on the way
-pub first_part : (a w : ℕ) → a < 256 → a * (8 - w) ≤ 255 * (8 - w)
-first_part a w h = mul-le-mul_right (8 - w) (omega arith)
-
-pub second-part : (b w : ℕ) → b < 256 → b * w ≤ 255 * w
-second-part b w h = mul-le-mul_right w (omega arith)
-
--- document 01's four formulas
-abbrev pub formulas : Bool → PVRTCTexelColorInt → PVRTCTexelColorInt
-formulas true s = record { r = s.r / 4 + s.r / 128; g = s.g / 4 + s.g / 128; b = s.b / 4 + s.b / 128; a = s.a / 2 + s.a / 32 }
-formulas false s = record { r = s.r / 2 + s.r / 64; g = s.g / 2 + s.g / 64; b = s.b / 2 + s.b / 64; a = s.a + s.a / 16 }
-
-alpha-2bpp : (s : ℕ) → s / 2 + s / 32 ≡ scale_alpha 4 s
-unfolding scale_alpha
-alpha-2bpp s = omega arith
-
-alpha-4bpp : (s : ℕ) → s + s / 16 ≡ scale_alpha 2 s
-unfolding scale_alpha
-alpha-4bpp s = omega arith
-
-formulas-are : (two : Bool) (s : PVRTCTexelColorInt) → formulas two s ≡ to_bytes (half two) s
-unfolding scale_color
-formulas-are true s = rw (alpha-2bpp s.a)
-formulas-are false s = rw (alpha-4bpp s.a)
+-- document 01's four formulas, by how far the sums are shifted
+formulas : (two : Bool) (s : PVRTCTexelColorInt) {k : ℕ} {r g b a : ℕ} → k ≡ from_bool two
+    → r ≡ s.r / 2 ^ (k + 1) + s.r / 2 ^ (k + 1 + 5) → g ≡ s.g / 2 ^ (k + 1) + s.g / 2 ^ (k + 1 + 5)
+    → b ≡ s.b / 2 ^ (k + 1) + s.b / 2 ^ (k + 1 + 5) → a ≡ s.a / 2 ^ k + s.a / 2 ^ (k + 4)
+    → record { r = r; g = g; b = b; a = a } ≡ to_bytes (half two) s
+unfolding scale_color scale_alpha
+formulas true s {a = a} ek er eg eb ea =
+    let alpha : a ≡ 2 * s.a / 4 + s.a / 32 = ea ∙ rw ek (omega arith) in rw (er, eg, eb, alpha, ek)
+formulas false s {a = a} ek er eg eb ea =
+    let alpha : a ≡ 2 * s.a / 2 + s.a / 16 = ea ∙ rw ek (omega arith) in rw (er, eg, eb, alpha, ek)
 
 -- sums that are small enough come to 8 bits
 pub bytes : (two : Bool) (s : PVRTCTexelColorInt) → Low (8 * half two) s → EightBits (pixel (to_bytes (half two) s))
@@ -63,10 +45,13 @@ unfolding scale_color scale_alpha
 bytes true s l = record { r = omega (arith, l.r); g = omega (arith, l.g); b = omega (arith, l.b); a = omega (arith, l.a) }
 bytes false s l = record { r = omega (arith, l.r); g = omega (arith, l.g); b = omega (arith, l.b); a = omega (arith, l.a) }
 
-pub scaled-by : (two : Bool) (s : PVRTCTexelColorInt) → Low (8 * half two) s → (formulas two s ≡ to_bytes (half two) s) × EightBits (pixel (formulas two s))
-scaled-by two s l =
-    let e = formulas-are two s in
-    (e, rw e (bytes two s l))
+pub scaled-by : (two : Bool) (s : PVRTCTexelColorInt) {k : ℕ} {r g b a : ℕ} → Low (8 * half two) s → k ≡ from_bool two
+    → r ≡ s.r / 2 ^ (k + 1) + s.r / 2 ^ (k + 1 + 5) → g ≡ s.g / 2 ^ (k + 1) + s.g / 2 ^ (k + 1 + 5)
+    → b ≡ s.b / 2 ^ (k + 1) + s.b / 2 ^ (k + 1 + 5) → a ≡ s.a / 2 ^ k + s.a / 2 ^ (k + 4)
+    → let t : PVRTCTexelColorInt = record { r = r; g = g; b = b; a = a } in (t ≡ to_bytes (half two) s) × EightBits (pixel t)
+scaled-by two s l ek er eg eb ea =
+    let e = formulas two s ek er eg eb ea in
+    (e, subst (λ (t : PVRTCTexelColorInt). EightBits (pixel t)) (sym e) (bytes two s l))
 
 -- two pixels of 8 bits, blended, have 8 bits
 pub blend-bytes : (s t : PVRTCTexelColorInt) (w : ℕ) (punched : Bool) → w ≤ 8 → EightBits (pixel s) → EightBits (pixel t)

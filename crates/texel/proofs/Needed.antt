@@ -1,13 +1,7 @@
 -- The words that a texel, or a row of texels, needs give the texels of all nine. Assumes nothing.
-use mathlib.Core.Path.{◌≡◌, sym, ap, subst, ◌∙◌}
-use mathlib.Core.Bool.{Bool, true, false, cond}
-use mathlib.Core.List.{List, [], ◌∷◌}
-use Prim.Native.Nat.{ℕ, zero, suc, ◌+◌, ◌*◌, ◌/◌, ◌%◌, ◌≤◌, ◌<◌}
-use native.Mathlib.Nat.{mod-lt, mul-le-mul, one-mul, not-suc-le-zero}
-use native.Mathlib.Omega.{arith}
-use lib.Dec.{eqb}
-use lib.ListN.{get_or, drop, get_or-replicate}
-use borrow.Author.Tests.{ne_eqb}
+use Rattle.std.proofs.Common.{◌≡◌, sym, ap, subst, ◌∙◌, Bool, true, false, cond, List, [], ◌∷◌, ℕ, zero, suc, ◌+◌, ◌*◌, ◌/◌, ◌%◌, ◌≤◌, ◌<◌, mod-lt}
+use Rattle.std.proofs.Common.{mul-le-mul, one-mul, not-suc-le-zero, arith, eqb, get_or, drop, ne_eqb}
+use lib.ListN.{get_or-replicate}
 use Rattle.facts.proofs.Tab.{get_or-tab}
 use Rattle.facts.specs.Tab.{tab}
 use Rattle.grid.specs.declared.Grid.{Grid}

@@ -1,22 +1,16 @@
 -- Laws of the nine words about a block. Assumes nothing.
-use mathlib.Core.Path.{◌≡◌, sym, ap, subst, ◌∙◌}
-use mathlib.Core.Bool.{Bool, true, false}
-use mathlib.Core.List.{List}
-use Prim.Native.Nat.{ℕ, ◌+◌, ◌*◌, ◌/◌, ◌%◌, ◌-◌, ◌≤◌, ◌<◌, min}
-use native.Mathlib.Omega.{arith}
-use lib.ListN.{get_or, take, drop, length, length-drop}
-use lib.Seq.{take_all}
+use Rattle.std.proofs.Common.{◌≡◌, sym, ap, subst, ◌∙◌, Bool, true, false, List, ℕ, ◌+◌, ◌*◌, ◌/◌, ◌%◌, ◌≤◌, ◌<◌, min, arith, get_or, drop}
 use Rattle.facts.proofs.Tab.{get_or-tab}
 use Rattle.grid.specs.declared.Grid.{Grid}
-use Rattle.grid.specs.Grid.{half, block_width, log2, address, beside}
-use Rattle.grid.specs.Words.{word_bytes, Stands}
-use Rattle.grid.proofs.Words.{beside-in, located}
+use Rattle.grid.specs.Grid.{half, block_width, log2, address, beside, Placed}
+use Rattle.grid.specs.Words.{Stands}
+use Rattle.grid.proofs.Words.{beside-in, placed-in, located}
 use Rattle.word.specs.Word.{Small, word_of}
 use Rattle.word.proofs.Bounds.{small-a, small_b, weight-le}
 use Rattle.word.specs.declared.PVRTCTexelInfo.{PVRTCTexelInfo}
 use Rattle.texel.specs.Texel.{texel_in}
 use Rattle.texel.specs.Inner.{blank, nine_of, side, words_about, nine_about, Read}
-use Rattle.texel.specs.Needed.{address_of}
+use Rattle.texel.specs.Needed.{address_of, word_about}
 use Rattle.texel.proofs.Same.{texel-same}
 use Rattle.texel.proofs.Shares.{half-low}
 
@@ -49,16 +43,21 @@ read g d bx by =
       low = λ k i l m. subst (λ (w : PVRTCTexelInfo). get_or w.weight i 0 ≤ 8) (sym (the_word g d bx by k l)) (low-weight g.is2bpp _ i m);
     }
 
--- the address of word k of nine, from the block's neighbours
-pub about-at : {g : Grid} (bx by k : ℕ) {cx cy m z : ℕ} → Stands g (word_bytes g) → cx ≡ beside g.across bx (k % 3) → cy ≡ beside g.down by (k / 3)
-    → m ≡ min g.across g.down → z ≡ address (log2 m) cx cy → (z ≡ address_of g bx by k) × (z < g.across * g.down)
-about-at {g} bx by k s ex ey em ez =
-    let at = located s (beside-in s bx by (k % 3) (k / 3)) em (rw (ex, ey) at ez) in
-    (at.0, omega arith)
+-- word k of the nine about block (bx, by), which lies at (x, y)
+module _ {g : Grid} {len : ℕ} (s : Stands g len) (bx by k : ℕ) {x y m : ℕ} (ex : x ≡ beside g.across bx (k % 3)) (ey : y ≡ beside g.down by (k / 3))
+    (em : m ≡ min g.across g.down) where
+  pub placed-there : Placed m x y
+  placed-there = rw (ex, ey) (placed-in s (beside-in s bx by (k % 3) (k / 3)) em)
 
--- the word at the start of what is left of the data from o on
-pub word-from : (two : Bool) (d : List ℕ) (o : ℕ) → word_of two (take (length d - o) (drop o d)) ≡ word_of two (drop o d)
-word-from two d o = ap (word_of two) (take_all (length d - o) (drop o d) (omega (arith, length-drop o d)))
+  module _ {z : ℕ} (ez : z ≡ address (log2 m) x y) where
+    there : (z ≡ address_of g bx by k) × (8 * z + 8 ≤ len)
+    there = located s (beside-in s bx by (k % 3) (k / 3)) em (rw (ex, ey) at ez)
+
+    pub in-data : 8 * z ≤ len
+    in-data = omega (arith, there)
+
+    pub word-there : (d : List ℕ) {w : PVRTCTexelInfo} → w ≡ word_of g.is2bpp (drop (8 * z) d) → w ≡ word_about g d bx by k
+    word-there d e = e ∙ ap (λ (z : ℕ). word_of g.is2bpp (drop (8 * z) d)) there.0
 
 -- the texel of the nine words about a block, in an array, is the texel of the words about it
 pub of-nine : (g : Grid) (d : List ℕ) (bx by px py : ℕ) → px < block_width g.is2bpp → py < 4

@@ -1,11 +1,5 @@
 -- How large a texel is: each channel lies between A's and B's and has 8 bits, and the word has 32. Assumes nothing.
-use mathlib.Core.Path.{◌≡◌, refl}
-use mathlib.Core.Bool.{Bool, true, false, cond}
-use mathlib.Core.List.{List}
-use Prim.Native.Nat.{ℕ, ◌+◌, ◌-◌, ◌*◌, ◌/◌, ◌%◌, ◌^◌, ◌≤◌, ◌<◌, min, max}
-use native.Mathlib.Nat.{mod-lt}
-use native.Mathlib.Omega.{arith}
-use lib.ListN.{drop}
+use Rattle.std.proofs.Common.{◌≡◌, refl, Bool, true, false, cond, List, ℕ, ◌+◌, ◌-◌, ◌*◌, ◌/◌, ◌%◌, ◌^◌, ◌≤◌, ◌<◌, min, max, mod-lt, arith, drop}
 use Rattle.grid.specs.Grid.{half, block_width, block_address, beside}
 use Rattle.pixel.proofs.Exchanged.{exchanging}
 use Rattle.pixel.specs.Pixel.{Pixel, packed, EightBits}

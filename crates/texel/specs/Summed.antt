@@ -2,16 +2,15 @@
 -- Assumes nothing: these are definitions.
 use Rattle.std.specs.Prelude.{Bool, true, false, List, [], ◌∷◌, ◌++◌, ℕ, ◌+◌, ◌*◌, ◌≤◌, ◌<◌, get_or, drop}
 use Rattle.facts.specs.Tab.{tab}
-use Rattle.grid.specs.Grid.{half, block_width}
+use Rattle.grid.specs.Grid.{half}
 use Rattle.pixel.specs.Pixel.{Pixel, packed}
 use Rattle.pixel.specs.declared.ChannelOrder.{ChannelOrder}
-use Rattle.word.specs.declared.Fill.TheVariants.{Nothing}
 use Rattle.word.specs.declared.PVRTCTexelColor.{PVRTCTexelColor}
 use Rattle.word.specs.declared.PVRTCTexelInfo.{PVRTCTexelInfo}
 use Rattle.texel.specs.declared.Columns.{Columns}
 use Rattle.texel.specs.declared.PVRTCTexelColorInt.{PVRTCTexelColorInt}
 use Rattle.texel.specs.declared.Window.{Window}
-use Rattle.texel.specs.Inner.{blank, nine_of, side, to_bytes, pixel, Low}
+use Rattle.texel.specs.Inner.{nine_of, side, to_bytes, pixel, Low}
 use Rattle.texel.specs.Texel.{share, Words, blend, filled, rule_at, punched, texel_in}
 
 -- The shares of the previous, the own and the next block at the place p of a block of 2h.
@@ -57,26 +56,11 @@ window_of nine row = record { a = columns false; b = columns true }
 abbrev pub across_of : Columns → List ℕ → PVRTCTexelColorInt
 across_of columns row = weighed row columns.previous columns.own columns.next
 
--- The stored weights of nine words, a row for each.
-unfoldable pub weights_of : List PVRTCTexelInfo → List (List ℕ)
-weights_of nine = tab (λ k. (get_or nine k blank).weight) 9
-
--- Words of which only the weights are known.
-abbrev pub only_weights : List (List ℕ) → Words
-only_weights weights i j =
-    record {
-      a = blank.a;
-      b = blank.b;
-      weight = get_or weights (3 * j + i) [];
-      punch_through_flag = 0;
-      fill = Nothing;
-    }
-
--- The texel at the place (px, py) of the word `own`, from its window and the weights about it.
-unfoldable pub texel_by : ℕ → List (List ℕ) → PVRTCTexelInfo → Window → ℕ → ℕ → Pixel
-texel_by h weights own window px py =
+-- The texel at the place (px, py) of the middle block of nine, from its window.
+unfoldable pub texel_by : ℕ → Words → Window → ℕ → ℕ → Pixel
+texel_by h nine window px py =
     blend (pixel (to_bytes h (across_of window.a (shares h px)))) (pixel (to_bytes h (across_of window.b (shares h px))))
-    (filled h (rule_at own px py) (only_weights weights) (px + 2 * h) (py + 4)) (punched h own px py)
+    (filled h (rule_at (nine 1 1) px py) nine (px + 2 * h) (py + 4)) (punched h (nine 1 1) px py)
 
 -- Lent words whose first `count` are the texels of the middle block of nine from the place (px, py) on.
 unfoldable pub with_texels : ChannelOrder → Bool → List PVRTCTexelInfo → (px py count : ℕ) → List ℕ → List ℕ
@@ -95,7 +79,3 @@ pub record LowColumns (columns : Columns) : Type 0 where
 pub record LowWindow (window : Window) : Type 0 where
   pub a : LowColumns window.a
   pub b : LowColumns window.b
-
--- Weights of nine words that were read: none is above 8.
-pub record LowWeights (two : Bool) (weights : List (List ℕ)) : Type 0 where
-  pub low : (k i : ℕ) → k < 9 → i < 4 * block_width two → get_or (get_or weights k []) i 0 ≤ 8

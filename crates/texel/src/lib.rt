@@ -6,12 +6,12 @@ mod summing;
 mod weights;
 mod words;
 
-ghost use Rattle.std.specs.Prelude.{◌≡◌, ◌*◌, ◌≤◌, ◌<◌};
+ghost use Rattle.std.specs.Prelude.{◌≡◌, ◌+◌, ◌*◌, ◌/◌, ◌^◌, ◌≤◌, ◌<◌};
 ghost use Rattle.grid.specs.Grid.{half};
 ghost use Rattle.pixel.specs.Pixel.{packed, EightBits};
 ghost use Rattle.texel.specs.Texel.{blended, blend, texel_in};
 ghost use Rattle.texel.specs.Inner.{nine_of, to_bytes, pixel, Place, Read, Low};
-ghost use Rattle.texel.specs.Summed.{share_rows, texel_by, LowWindow, LowWeights};
+ghost use Rattle.texel.specs.Summed.{texel_by, LowWindow};
 
 use pixel::ChannelOrder;
 pub use rows::{first_words, next_words, texels_in};
@@ -44,25 +44,25 @@ pub struct Window {
     pub b: Columns,
 }
 
+// A sum of channels of so many bits as 8 bits: shifted down, and what is above that many bits once more.
+fn to_byte(sum: u32, shift: u32, bits: u32) -> u32
+    requires { (shift ≤ 2) × (bits ≤ 5) × (sum ≤ 992) }
+    ensures { result ≡ sum / 2 ^ shift + sum / 2 ^ (shift + bits) }
+{
+    (sum >> shift) + (sum >> (shift + bits))
+}
+
 // A colour's sums as 8 bits.
 fn scale(s: PVRTCTexelColorInt, is2bpp: bool) -> PVRTCTexelColorInt
     requires { Low (8 * half is2bpp) s }
     ensures { (result ≡ to_bytes (half is2bpp) s) × EightBits (pixel result) }
 {
-    if is2bpp {
-        PVRTCTexelColorInt {
-            r: s.r / 4 + s.r / 128,
-            g: s.g / 4 + s.g / 128,
-            b: s.b / 4 + s.b / 128,
-            a: s.a / 2 + s.a / 32,
-        }
-    } else {
-        PVRTCTexelColorInt {
-            r: s.r / 2 + s.r / 64,
-            g: s.g / 2 + s.g / 64,
-            b: s.b / 2 + s.b / 64,
-            a: s.a + s.a / 16,
-        }
+    let shift = u32::from(is2bpp);
+    PVRTCTexelColorInt {
+        r: to_byte(s.r, shift + 1, 5),
+        g: to_byte(s.g, shift + 1, 5),
+        b: to_byte(s.b, shift + 1, 5),
+        a: to_byte(s.a, shift, 4),
     }
 }
 
@@ -96,27 +96,23 @@ fn mix(
     }
 }
 
-// The texel at the place (px, py) of the block of the word `own`, from its window and the weights about it. The tables of shares are lent.
+// The texel at the place (px, py) of the middle block of nine, from its window.
 fn texel_by(
-    wide: &[[u32; 3]; 8],
-    narrow: &[[u32; 3]; 4],
-    weights: &[[u8; 32]; 9],
-    own: PVRTCTexelInfo,
+    nine: &[PVRTCTexelInfo; 9],
     window: Window,
     is2bpp: bool,
     px: usize,
     py: usize,
     order: ChannelOrder,
 ) -> u32
-    requires wide_value { (wide.now ≡ share_rows 4) × (narrow.now ≡ share_rows 2) × Place is2bpp px py }
-    requires low_weights { LowWeights is2bpp weights.now × LowWindow window }
-    ensures { result ≡ packed order (texel_by (half is2bpp) weights.now own window px py) }
+    requires { Place is2bpp px py × Read is2bpp nine.now × LowWindow window }
+    ensures { result ≡ packed order (texel_by (half is2bpp) (nine_of nine.now) window px py) }
 {
-    let row = shares_across(wide, narrow, is2bpp, px);
+    let row = shares_across(is2bpp, px);
     let a = scale(sum_across(window.a, &row), is2bpp);
     let b = scale(sum_across(window.b, &row), is2bpp);
-    let w = weight_at(weights, own, is2bpp, px, py);
-    let is_punched = punched(own.punch_through_flag, is2bpp, px, py);
+    let w = weight_at(nine, is2bpp, px, py);
+    let is_punched = punched(nine[4].punch_through_flag, is2bpp, px, py);
     mix(a, b, w, is_punched, order)
 }
 
@@ -131,7 +127,7 @@ pub fn texel_in(
     requires { Place is2bpp px py × Read is2bpp nine }
     ensures { result ≡ packed order (texel_in (half is2bpp) (nine_of nine) px py) }
 {
-    let mut texels = [0u32; 8];
+    let mut texels = [0; 8];
     texels_in(nine, is2bpp, px, py, 1, order, &mut texels);
     texels[0]
 }

@@ -1,14 +1,13 @@
 // A row of texels, block by block: the nine words about a block become those about the next one.
 ghost use Rattle.std.specs.Prelude.{◌≡◌, ◌+◌, ◌≤◌, ◌<◌, length};
-ghost use Rattle.grid.specs.Grid.{block_width, spread_table};
+ghost use Rattle.grid.specs.Grid.{block_width};
 ghost use Rattle.grid.specs.Words.{Stands, InGrid};
 ghost use Rattle.texel.specs.Inner.{Read};
 ghost use Rattle.texel.specs.Summed.{with_texels};
 ghost use Rattle.texel.specs.Needed.{row_words, slid};
 
-use crate::summing::{narrow_shares, sum_down, wide_shares};
+use crate::summing::{shares_down, sum_down};
 use crate::texel_by;
-use crate::weights::weights_in;
 use crate::words::{needed_words, word_if};
 use grid::Grid;
 use pixel::ChannelOrder;
@@ -27,49 +26,22 @@ pub fn texels_in(
     requires { (px + count ≤ block_width is2bpp) × (py < 4) × Read is2bpp nine × (count ≤ length texels.old) }
     ensures { texels.new ≡ with_texels order is2bpp nine px py count texels.old }
 {
-    let wide = wide_shares();
-    let narrow = narrow_shares();
-    let weights = weights_in(nine);
-    let row = narrow[py];
-    let window = sum_down(nine, &row);
-    let own = nine[4];
-    for i in 0..count {
-        texels[i] = texel_by(
-            &wide,
-            &narrow,
-            &weights,
-            own,
-            window,
-            is2bpp,
-            px + i,
-            py,
-            order,
-        );
+    let window = sum_down(&nine, &shares_down(py));
+    for (i, texel) in texels[..count].iter_mut().enumerate() {
+        *texel = texel_by(&nine, window, is2bpp, px + i, py, order);
     }
 }
 
 // The nine words about block (bx, by), as far as row py needs them.
-pub fn first_words(
-    table: &[u16; 256],
-    data: &[u8],
-    g: Grid,
-    bx: usize,
-    by: usize,
-    py: usize,
-) -> [PVRTCTexelInfo; 9]
-    requires table_value { (table.now ≡ spread_table) × Stands g (length «data».now) }
-    requires in_grid { InGrid g bx by × (py < 4) }
+pub fn first_words(data: &[u8], g: Grid, bx: usize, by: usize, py: usize) -> [PVRTCTexelInfo; 9]
+    requires { Stands g (length «data».now) × InGrid g bx by × (py < 4) }
     ensures { result ≡ row_words g «data».now bx by py }
 {
-    let narrow = narrow_shares();
-    let down = narrow[py];
-    let across = [1u32, 1, 1];
-    needed_words(table, data, g, bx, by, &across, &down)
+    needed_words(data, g, bx, by, &[1, 1, 1], &shares_down(py))
 }
 
 // From the nine words about the block before (bx, by), those about it.
 pub fn next_words(
-    table: &[u16; 256],
     data: &[u8],
     g: Grid,
     nine: [PVRTCTexelInfo; 9],
@@ -77,15 +49,13 @@ pub fn next_words(
     by: usize,
     py: usize,
 ) -> [PVRTCTexelInfo; 9]
-    requires table_value { (table.now ≡ spread_table) × Stands g (length «data».now) }
-    requires in_grid { InGrid g bx by × (py < 4) }
+    requires { Stands g (length «data».now) × InGrid g bx by × (py < 4) }
     ensures { result ≡ slid g «data».now bx by py nine }
 {
-    let narrow = narrow_shares();
-    let down = narrow[py];
-    let above = word_if(table, data, g, bx, by, 2, down[0]);
-    let beside = word_if(table, data, g, bx, by, 5, down[1]);
-    let below = word_if(table, data, g, bx, by, 8, down[2]);
+    let down = shares_down(py);
+    let above = word_if(data, g, bx, by, 2, down[0]);
+    let beside = word_if(data, g, bx, by, 5, down[1]);
+    let below = word_if(data, g, bx, by, 8, down[2]);
     [
         nine[1], nine[2], above, nine[4], nine[5], beside, nine[7], nine[8], below,
     ]

@@ -1,15 +1,16 @@
 // Sums of colours by shares: down the columns of words about a block, and then across them.
 ghost use Rattle.std.specs.Prelude.{◌≡◌, ◌*◌, ◌≤◌, ◌<◌};
 ghost use Rattle.grid.specs.Grid.{half, block_width};
-ghost use Rattle.texel.specs.Inner.{nine_of, side, SmallColors, Low};
+ghost use Rattle.word.specs.Word.{Small};
+ghost use Rattle.texel.specs.Inner.{nine_of, SmallColors, Low};
 ghost use Rattle.texel.specs.Summed as spec;
-ghost use Rattle.texel.specs.Summed.{shares, share_rows, three, widened, column_of, window_of, across_of, FewShares, LowColumns};
+ghost use Rattle.texel.specs.Summed.{shares, three, widened, window_of, across_of, FewShares, LowColumns};
 
 use crate::{Columns, PVRTCTexelColorInt, Window};
 use word::{PVRTCTexelColor, PVRTCTexelInfo};
 
 // The shares of the previous, the own and the next block, for each place across a block at 2bpp.
-const INTERP_WEIGHT_X: [[u32; 3]; 8] = [
+static INTERP_WEIGHT_X: [[u32; 3]; 8] = [
     [4, 4, 0],
     [3, 5, 0],
     [2, 6, 0],
@@ -21,32 +22,26 @@ const INTERP_WEIGHT_X: [[u32; 3]; 8] = [
 ];
 
 // The same down a block at either depth, and across one at 4bpp.
-const INTERP_WEIGHT_Y: [[u32; 3]; 4] = [[2, 2, 0], [1, 3, 0], [0, 4, 0], [0, 3, 1]];
-
-// The tables, for whoever lends them.
-pub fn wide_shares() -> [[u32; 3]; 8]
-    ensures { result ≡ share_rows 4 }
-{
-    INTERP_WEIGHT_X
-}
-
-pub fn narrow_shares() -> [[u32; 3]; 4]
-    ensures { result ≡ share_rows 2 }
-{
-    INTERP_WEIGHT_Y
-}
+static INTERP_WEIGHT_Y: [[u32; 3]; 4] = [[2, 2, 0], [1, 3, 0], [0, 4, 0], [0, 3, 1]];
 
 // The shares at the place px across a block.
-pub fn shares_across(
-    wide: &[[u32; 3]; 8],
-    narrow: &[[u32; 3]; 4],
-    is2bpp: bool,
-    px: usize,
-) -> [u32; 3]
-    requires { (wide.now ≡ share_rows 4) × (narrow.now ≡ share_rows 2) × (px < block_width is2bpp) }
+pub fn shares_across(is2bpp: bool, px: usize) -> [u32; 3]
+    requires { px < block_width is2bpp }
     ensures { result ≡ shares (half is2bpp) px }
 {
-    if is2bpp { wide[px] } else { narrow[px] }
+    if is2bpp {
+        INTERP_WEIGHT_X[px]
+    } else {
+        INTERP_WEIGHT_Y[px]
+    }
+}
+
+// The shares at the place py down a block.
+pub fn shares_down(py: usize) -> [u32; 3]
+    requires { py < 4 }
+    ensures { result ≡ shares 2 py }
+{
+    INTERP_WEIGHT_Y[py]
 }
 
 // Three numbers by a row of shares.
@@ -76,59 +71,47 @@ fn weighed(
 }
 
 // A colour's channels, with room for sums.
-fn widen(c: PVRTCTexelColor) -> PVRTCTexelColorInt
-    ensures { result ≡ widened c }
-{
-    PVRTCTexelColorInt {
-        r: c.r as u32,
-        g: c.g as u32,
-        b: c.b as u32,
-        a: c.a as u32,
+impl From<PVRTCTexelColor> for PVRTCTexelColorInt {
+    ghost from_gives = { λ c s. s ≡ widened c };
+
+    fn from(c: PVRTCTexelColor) -> PVRTCTexelColorInt {
+        PVRTCTexelColorInt {
+            r: u32::from(c.r),
+            g: u32::from(c.g),
+            b: u32::from(c.b),
+            a: u32::from(c.a),
+        }
     }
 }
 
-// Colour B of a word if `second`, else A.
-fn side_of(word: PVRTCTexelInfo, second: bool) -> PVRTCTexelColor
-    ensures { result ≡ side second word }
+// The colours of three words above one another by a row of shares.
+fn column(
+    above: PVRTCTexelColor,
+    own: PVRTCTexelColor,
+    below: PVRTCTexelColor,
+    row: &[u32; 3],
+) -> PVRTCTexelColorInt
+    requires { Small above × Small own × Small below × FewShares row.now }
+    ensures { result ≡ spec.weighed row.now (widened above) (widened own) (widened below) }
 {
-    if second { word.b } else { word.a }
-}
-
-// The same, with room for sums.
-fn color_of(word: PVRTCTexelInfo, second: bool) -> PVRTCTexelColorInt
-    ensures { result ≡ widened (side second word) }
-{
-    widen(side_of(word, second))
-}
-
-// Colour A, or B, of the three words of column i of nine, by a row of shares.
-fn column(nine: [PVRTCTexelInfo; 9], second: bool, i: usize, row: &[u32; 3]) -> PVRTCTexelColorInt
-    requires { SmallColors nine × (i < 3) × FewShares row.now }
-    ensures { result ≡ column_of (nine_of nine) second i row.now }
-{
-    weighed(
-        color_of(nine[i], second),
-        color_of(nine[3 + i], second),
-        color_of(nine[6 + i], second),
-        row,
-    )
+    weighed(above.into(), own.into(), below.into(), row)
 }
 
 // The three columns of nine words, of colour A and of B.
-pub fn sum_down(nine: [PVRTCTexelInfo; 9], row: &[u32; 3]) -> Window
-    requires { SmallColors nine × FewShares row.now }
-    ensures { result ≡ window_of (nine_of nine) row.now }
+pub fn sum_down(nine: &[PVRTCTexelInfo; 9], row: &[u32; 3]) -> Window
+    requires { SmallColors nine.now × FewShares row.now }
+    ensures { result ≡ window_of (nine_of nine.now) row.now }
 {
     Window {
         a: Columns {
-            previous: column(nine, false, 0, row),
-            own: column(nine, false, 1, row),
-            next: column(nine, false, 2, row),
+            previous: column(nine[0].a, nine[3].a, nine[6].a, row),
+            own: column(nine[1].a, nine[4].a, nine[7].a, row),
+            next: column(nine[2].a, nine[5].a, nine[8].a, row),
         },
         b: Columns {
-            previous: column(nine, true, 0, row),
-            own: column(nine, true, 1, row),
-            next: column(nine, true, 2, row),
+            previous: column(nine[0].b, nine[3].b, nine[6].b, row),
+            own: column(nine[1].b, nine[4].b, nine[7].b, row),
+            next: column(nine[2].b, nine[5].b, nine[8].b, row),
         },
     }
 }

@@ -1,19 +1,13 @@
 -- What a word's parts are, one by one, and what they are bounded by: colours by 31, alphas by 15, weights by 8.
 -- Assumes nothing.
-use mathlib.Core.Path.{◌≡◌, refl, ap, ◌∙◌}
-use mathlib.Core.Bool.{Bool, true, false, cond}
-use mathlib.Core.List.{List, [], ◌∷◌}
-use Prim.Native.Nat.{ℕ, ◌+◌, ◌/◌, ◌%◌, ◌^◌, ◌≤◌, ◌<◌}
-use native.Mathlib.Omega.{arith}
+use Rattle.std.proofs.Common.{◌≡◌, refl, Bool, true, false, cond, List, [], ◌∷◌, ℕ, ◌+◌, ◌/◌, ◌%◌, ◌^◌, ◌≤◌, ◌<◌, arith, leb, leb→le}
+use Rattle.std.proofs.Common.{get_or, drop, replicate}
 use lib.Bits.{and_le_r}
-use lib.Dec.{leb, leb→le}
-use lib.ListN.{length, get_or, drop, replicate, length-append}
 use Rattle.facts.specs.Bits.{is_set}
-use Rattle.facts.specs.Tab.{tab}
 use Rattle.facts.proofs.Bits.{flags-bit}
 use Rattle.facts.proofs.Finite.{at}
 use Rattle.facts.proofs.Numbers.{cond-le}
-use Rattle.facts.proofs.Tab.{length-tab, get_or-tab, tab-front}
+use Rattle.facts.proofs.Tab.{get_or-tab, tab-front}
 use Rattle.word.specs.Word.{modulation, color_a, color_b, mode, opaque, blue_a, blue_b, color_of, Small, code, standard_weight, punch_through_weight}
 use Rattle.word.specs.Word.{weight4bpp, punch4bpp, holds_code, gives_bit, stored2bpp, weight2bpp, word_of}
 use Rattle.word.specs.declared.Fill.TheVariants.{Nothing}
@@ -81,13 +75,6 @@ weights-2 d i h = get_or-tab (weight2bpp (mode d) (modulation d)) 32 i 0 h
 pub weight-le : (two : Bool) (d : List ℕ) (i : ℕ) → i < cond two 32 16 → get_or (word_of two d).weight i 0 ≤ 8
 weight-le true d i h = rw (weights-2 d i h) (weight2bpp-le (mode d) (modulation d) i)
 weight-le false d i h = rw (weights-4 d i h) (weight4bpp-le (mode d) (modulation d) i)
-
-pub weights-length : (two : Bool) (d : List ℕ) → length (word_of two d).weight ≡ 32
-unfolding word_of
-weights-length true d = length-tab (weight2bpp (mode d) (modulation d)) 32
-weights-length false d =
-    length-append (tab (weight4bpp (mode d) (modulation d)) 16) (drop 16 (replicate 32 0))
-    ∙ ap (λ (n : ℕ). n + 16) (length-tab (weight4bpp (mode d) (modulation d)) 16)
 
 -- bit i of a 4bpp word's flag says whether texel i is punched through; at 2bpp none is
 pub punch-bit : (d : List ℕ) (i : ℕ) → i < 16 → (word_of false d).punch_through_flag / 2 ^ i % 2 ≡ cond (punch4bpp (mode d) (modulation d) i) 1 0

@@ -1,10 +1,5 @@
 -- A word depends on its eight bytes alone. Assumes nothing.
-use mathlib.Core.Path.{◌≡◌}
-use mathlib.Core.Bool.{Bool}
-use mathlib.Core.List.{List}
-use Prim.Native.Nat.{ℕ, ◌<◌}
-use native.Mathlib.Omega.{arith}
-use lib.ListN.{get_or}
+use Rattle.std.proofs.Common.{◌≡◌, Bool, List, ℕ, ◌<◌, arith, get_or}
 use Rattle.word.specs.Word.{word_of}
 
 -- lists that agree in the first eight bytes start with the same word

@@ -42,16 +42,18 @@ pub struct PVRTCTexelInfo {
 fn byte_at(data: &[u8], i: usize) -> u8
     ensures { result ≡ get_or «data».now i 0 }
 {
-    if i < data.len() { data[i] } else { 0 }
+    data.get(i).copied().unwrap_or(0)
 }
 
-fn wide(byte: u8) -> u16
-    ensures { (result ≡ byte) × (result < 256) }
+// The bytes at i and i + 1, as one number.
+fn u16_at(data: &[u8], i: usize) -> u16
+    requires { i < 8 }
+    ensures { result ≡ get_or «data».now i 0 + 256 * get_or «data».now (i + 1) 0 }
 {
-    byte as u16
+    u16::from_le_bytes([byte_at(data, i), byte_at(data, i + 1)])
 }
 
-// A colour's blue, which A and B keep in different bits.
+// A colour's blue. A and B keep it in bits that differ in place and number, so each has its formula.
 fn blue_a(c: u16) -> u8
     ensures { result ≡ blue_a c }
 {
@@ -97,17 +99,16 @@ fn color_of(c: u16, blue: u8) -> PVRTCTexelColor
 pub fn get_texel_colors(data: &[u8], info: PVRTCTexelInfo) -> PVRTCTexelInfo
     ensures { result ≡ with_colors «data».now info }
 {
-    let ca = wide(byte_at(data, 4)) + 256 * wide(byte_at(data, 5));
-    let cb = wide(byte_at(data, 6)) + 256 * wide(byte_at(data, 7));
-    let a = color_of(ca, blue_a(ca));
-    let b = color_of(cb, blue_b(cb));
-    let mut read = info;
-    read.a = a;
-    read.b = b;
-    read
+    let ca = u16_at(data, 4);
+    let cb = u16_at(data, 6);
+    PVRTCTexelInfo {
+        a: color_of(ca, blue_a(ca)),
+        b: color_of(cb, blue_b(cb)),
+        ..info
+    }
 }
 
-// The record before anything is read into it.
+// The record before anything is read into it. (By a derived Default the proof did not close: what it says, field by field, `cc` did not join.)
 pub fn unread_info() -> PVRTCTexelInfo
     ensures { result ≡ unread }
 {
@@ -117,17 +118,17 @@ pub fn unread_info() -> PVRTCTexelInfo
         b: 0,
         a: 0,
     };
-    let weight = [0u8; 32];
     PVRTCTexelInfo {
         a: black,
         b: black,
-        weight: weight,
+        weight: [0; 32],
         punch_through_flag: 0,
         fill: Fill::Nothing,
     }
 }
 
 // The whole word.
+#[tactic(auto, unfolding(crate::specs::Word::word_of))]
 pub fn read_word(data: &[u8], is2bpp: bool) -> PVRTCTexelInfo
     ensures { result ≡ word_of is2bpp «data».now }
 {

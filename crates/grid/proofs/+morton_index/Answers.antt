@@ -5,9 +5,6 @@ use Rattle.grid.proofs.Powers.{power-above}
 use Rattle.grid.proofs.+morton_index.Goals as goal
 use Rattle.grid.proofs.+morton_index.Goals.{After-morton_index}
 
-pub overflow_add-result : goal.overflow_add-result
-overflow_add-result t c = omega (arith, c.requires.small-x, c.requires.small-y)
-
 pub morton_index-requires : goal.morton_index-requires
 morton_index-requires t c =
     (omega (arith, power-above c.args.min_dim c.requires.power, c.decreases), placed-half _ _ _ c.requires c.if-min_dim-eq1.false)

@@ -1,13 +1,7 @@
--- `grid::is_power_of_two` meets its contract: `Powers` has what the mask tells. Assumes nothing.
-use Rattle.std.proofs.Common.{sym, arith, pow_pos, ne_eqb}
-use Rattle.grid.specs.Grid.{log2}
-use Rattle.grid.proofs.Powers.{mask-test}
+-- `grid::is_power_of_two` meets its contract: `Powers` has that one bit of a power is set. Assumes nothing.
+use Rattle.std.proofs.Common.{◌∙◌}
+use Rattle.grid.proofs.Powers.{one-bit}
 use Rattle.grid.proofs.is_power_of_two.Goals as goal
 
-pub returns-then-n-eq0 : goal.returns-then-n-eq0
-returns-then-n-eq0 c =
-    let n = c.args.n in
-    sym (ne_eqb n _ (omega (arith, pow_pos (log2 n))))
-
-pub returns-else-n-eq0 : goal.returns-else-n-eq0
-returns-else-n-eq0 c = mask-test c.args.n c.if-n-eq0.false
+pub returns : goal.returns
+returns c = c.is_power_of_two.ensures ∙ one-bit c.args.n

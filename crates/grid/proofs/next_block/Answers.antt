@@ -1,15 +1,12 @@
 -- `grid::next_block` meets its contract: `Torus` has why the machine's wrap does no harm. Assumes nothing.
-use Rattle.std.proofs.Common.{◌≤◌, arith, pow_pos}
+use Rattle.std.proofs.Common.{◌≤◌, refl, arith}
 use Rattle.facts.proofs.Powers.{pow-le-cancel}
 use Rattle.grid.specs.Grid.{log2}
 use Rattle.grid.proofs.Torus.{wraps-on}
 use Rattle.grid.proofs.next_block.Goals as goal
 
-pub nonzero_rem-result : goal.nonzero_rem-result
-nonzero_rem-result c = omega (arith, pow_pos (log2 c.args.side))
-
 pub returns : goal.returns
 returns c =
     let side = c.args.side in
     let few : log2 side ≤ 64 = pow-le-cancel {b = 64} (omega arith) in
-    wraps-on (log2 side) side c.requires few _ _ c.wrapping_add_usize.ensures.value
+    wraps-on (log2 side) side c.requires few _ _ refl

@@ -5,5 +5,5 @@ use Rattle.lanes.proofs.colors.summed.Goals as goal
 pub returns : goal.returns
 returns c =
     let a = c.args in
-    summed-is a.order a.d.now a.above a.own a.below c.word_a-above_a.ensures.0 c.word_a-own_a.ensures.0 c.word_a-below_a.ensures.0
-    c.word_b-above_b.ensures.0 c.word_b-own_b.ensures.0 c.word_b-below_b.ensures.0
+    summed-is a.order a.d.now a.above a.own a.below c.word_a.ensures.0 c.word_a-2.ensures.0 c.word_a-3.ensures.0
+    c.word_b.ensures.0 c.word_b-2.ensures.0 c.word_b-3.ensures.0 c.downwards.ensures c.downwards-2.ensures

@@ -41,10 +41,7 @@ first_words-nine-requires c =
     let some = some-across (stands ok) in
     let row = (block_in ok 0 a.y (width_above a.p ok.sides) (row_inside a.p a.y (length a.row.now) ok.inside)).down in
     let grid = c.grid_of-g.ensures in
-    record {
-      table_value = (c.spread_table-table.ensures, stands-as ok grid);
-      in_grid = (rw grid (record { across = omega arith; down = row }), omega arith);
-    }
+    (stands-as ok grid, rw grid (record { across = omega arith; down = row }), omega arith)
 
 pub loop-x-init : goal.loop-x-init
 loop-x-init c =
@@ -71,10 +68,7 @@ block_at l h =
 pub next_words-nine-requires : goal.next_words-nine-requires
 next_words-nine-requires c =
     let l = (goal.at.next_words-nine-requires c).At-loop-x in
-    record {
-      table_value = (c.spread_table-table.ensures, stands_at l);
-      in_grid = (rw c.block_width-width.ensures (block_at l c.loop-x-test.true), omega arith);
-    }
+    (stands_at l, rw c.block_width-width.ensures (block_at l c.loop-x-test.true), omega arith)
 
 pub texels_in-requires : goal.texels_in-requires
 texels_in-requires c =

@@ -1,21 +1,16 @@
 -- `texel::rows::first_words` meets its contract: every column counts, and the rows by their shares. Assumes nothing.
-use mathlib.Core.Path.{ap, ◌∙◌}
-use native.Mathlib.Omega.{arith}
-use Rattle.texel.proofs.Across.{row_at, few-shares}
+use Rattle.std.proofs.Common.{ap, ◌∙◌, arith}
+use Rattle.texel.proofs.Across.{few-shares}
 use Rattle.texel.proofs.Needed.{few-every}
 use Rattle.texel.specs.Needed.{needed_about, every}
 use Rattle.texel.proofs.rows.first_words.Goals as goal
 
 pub needed_words-requires : goal.needed_words-requires
 needed_words-requires c =
-    let a = c.args in
     let p = c.requires in
-    let row = row_at 2 a.py c.narrow_shares-narrow.ensures p.in_grid.1 in
-    record { table_value = p.table_value; in_grid = (p.in_grid.0, few-every, rw row (few-shares 2 a.py (omega arith) p.in_grid.1)) }
+    (p.0, p.1, few-every, rw c.shares_down.ensures (few-shares 2 c.args.py (omega arith) p.2))
 
 pub returns : goal.returns
 returns c =
     let a = c.args in
-    let p = c.requires in
-    c.needed_words.ensures
-    ∙ ap (needed_about a.g a.«data».now a.bx a.by every) (row_at 2 a.py c.narrow_shares-narrow.ensures p.in_grid.1)
+    c.needed_words.ensures ∙ ap (needed_about a.g a.«data».now a.bx a.by every) c.shares_down.ensures

@@ -1,13 +1,8 @@
 -- `texel::rows::next_words` meets its contract: two columns move, and a third is read. Assumes nothing.
-use Rattle.texel.proofs.Across.{row_at}
 use Rattle.texel.proofs.Needed.{slid-to}
 use Rattle.texel.proofs.rows.next_words.Goals as goal
 
 pub returns : goal.returns
 returns c =
     let a = c.args in
-    let p = c.requires in
-    slid-to a.g a.«data».now a.bx a.by a.py a.nine
-    (row_at 2 a.py c.narrow_shares-narrow.ensures p.in_grid.1)
-    c.word_if-above.ensures c.word_if-beside.ensures
-    c.word_if-below.ensures
+    slid-to a.g a.«data».now a.bx a.by a.py a.nine c.shares_down-down.ensures c.word_if-above.ensures c.word_if-beside.ensures c.word_if-below.ensures

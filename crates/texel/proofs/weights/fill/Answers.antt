@@ -1,26 +1,19 @@
 -- `texel::weights::fill` meets its contract, rule by rule. Assumes nothing.
-use native.Mathlib.Omega.{arith}
+use Rattle.std.proofs.Common.{arith}
 use Rattle.grid.specs.Grid.{half}
 use Rattle.texel.proofs.Made.{by-nothing, by-around, by-above-below, by-left-right}
-use Rattle.texel.proofs.Shares.{half_high}
-use Rattle.texel.specs.Summed.{only_weights}
+use Rattle.texel.specs.Inner.{nine_of}
 use Rattle.texel.proofs.weights.fill.Goals as goal
-
-pub overflow_add-x : goal.overflow_add-x
-overflow_add-x c = omega (arith, c.requires.2.across, half_high c.args.is2bpp)
-
-pub overflow_add-x-in-LeftRight : goal.overflow_add-x-in-LeftRight
-overflow_add-x-in-LeftRight c = omega (arith, c.requires.2.across, half_high c.args.is2bpp)
 
 pub returns-in-Nothing : goal.returns-in-Nothing
 returns-in-Nothing c =
     let a = c.args in
-    (by-nothing (half a.is2bpp) (only_weights a.weights.now) a.x a.y c.in-Nothing.is c.near.ensures.0, c.near.ensures.1)
+    (by-nothing (half a.is2bpp) (nine_of a.nine.now) a.x a.y c.in-Nothing.is c.near.ensures.0, c.near.ensures.1)
 
 pub returns-in-Around : goal.returns-in-Around
 returns-in-Around c =
     let a = c.args in (
-      by-around (half a.is2bpp) (only_weights a.weights.now) a.x a.y c.in-Around.is
+      by-around (half a.is2bpp) (nine_of a.nine.now) a.x a.y c.in-Around.is
           c.near-in-Around.ensures.0 c.near-in-Around-2.ensures.0 c.near-in-Around-3.ensures.0 c.near-in-Around-4.ensures.0,
       omega arith,
     )
@@ -28,13 +21,13 @@ returns-in-Around c =
 pub returns-in-AboveBelow : goal.returns-in-AboveBelow
 returns-in-AboveBelow c =
     let a = c.args in (
-      by-above-below (half a.is2bpp) (only_weights a.weights.now) a.x a.y c.in-AboveBelow.is c.near-in-AboveBelow.ensures.0 c.near-in-AboveBelow-2.ensures.0,
+      by-above-below (half a.is2bpp) (nine_of a.nine.now) a.x a.y c.in-AboveBelow.is c.near-in-AboveBelow.ensures.0 c.near-in-AboveBelow-2.ensures.0,
       omega arith,
     )
 
 pub returns-in-LeftRight : goal.returns-in-LeftRight
 returns-in-LeftRight c =
     let a = c.args in (
-      by-left-right (half a.is2bpp) (only_weights a.weights.now) a.x a.y c.in-LeftRight.is c.near-in-LeftRight.ensures.0 c.near-in-LeftRight-2.ensures.0,
+      by-left-right (half a.is2bpp) (nine_of a.nine.now) a.x a.y c.in-LeftRight.is c.near-in-LeftRight.ensures.0 c.near-in-LeftRight-2.ensures.0,
       omega arith,
     )

@@ -1,13 +1,9 @@
 -- `texel::words::needed_words` meets its contract. The loop keeps that the first k words are read, as far as they are needed. Assumes nothing.
-use Prim.Native.Nat.{◌-◌, ◌*◌, ◌≤◌, ◌/◌, ◌%◌}
-use lib.ListN.{get_or}
+use Rattle.std.proofs.Common.{◌*◌, ◌/◌, ◌%◌, get_or}
 use Rattle.facts.proofs.Tab.{Filled}
 use Rattle.texel.specs.Needed.{word_about, word_if}
 use Rattle.texel.proofs.words.needed_words.Given as goal
 
 abbrev pub invariant-loop-k : goal.invariant-loop-k
 invariant-loop-k l =
-    (l.k ≤ 9) × Filled (λ k'. word_if (get_or l.across (k' % 3) 0 * get_or l.down (k' / 3) 0) (word_about l.g l.data l.bx l.by k')) l.initial.nine l.k l.nine
-
-abbrev pub decreases-loop-k : goal.decreases-loop-k
-decreases-loop-k l = 9 - l.k
+    Filled (λ k'. word_if (get_or l.across (k' % 3) 0 * get_or l.down (k' / 3) 0) (word_about l.g l.data l.bx l.by k')) l.initial.word-items l.k l.word-items

@@ -1,33 +1,30 @@
 -- `texel::words::nine_words` meets its contract. The loop keeps that the first k words are read. Assumes nothing.
-use mathlib.Core.Path.{refl, ap, ◌∙◌}
-use Prim.Native.Nat.{ℕ, ◌*◌}
-use native.Mathlib.Omega.{arith}
-use lib.ListN.{drop}
+use Rattle.std.proofs.Common.{refl, arith}
 use Rattle.facts.proofs.Tab.{filled_none, filled_more, filled-end}
-use Rattle.grid.proofs.Words.{exact}
-use Rattle.word.specs.Word.{word_of}
 use Rattle.texel.specs.Inner.{nine_about}
+use Rattle.texel.proofs.Nine.{placed-there, in-data, word-there}
 use Rattle.texel.proofs.words.nine_words.Goals as goal
 
 pub loop-k-init : goal.loop-k-init
-loop-k-init c = (omega arith, filled_none _ _)
+loop-k-init c = filled_none _ _
 
-pub address-requires : goal.address-requires
-address-requires c =
-    let p = c.requires in
-    (exact p.0, p.1, omega arith)
+pub morton_index-requires : goal.morton_index-requires
+morton_index-requires c =
+    let n = c.neighbour-x.ensures in
+    placed-there c.requires.0 _ _ _ n.0 n.1 c.min.ensures
 
 pub word_at-requires : goal.word_at-requires
-word_at-requires c = omega (arith, c.address.ensures.1, c.requires.0.enough)
+word_at-requires c =
+    let n = c.neighbour-x.ensures in
+    in-data c.requires.0 _ _ _ n.0 n.1 c.min.ensures c.morton_index.ensures
 
 pub loop-k-preserved : goal.loop-k-preserved
 loop-k-preserved c =
-    let a = c.args in
-    let e = c.word_at.ensures ∙ ap (λ (z : ℕ). word_of a.g.is2bpp (drop (8 * z) a.«data».now)) c.address.ensures.0 in
-    (omega arith, filled_more c.loop-k.invariant.1 e (omega arith))
+    let n = c.neighbour-x.ensures in
+    filled_more c.loop-k.invariant
+    (word-there c.requires.0 _ _ _ n.0 n.1 c.min.ensures c.morton_index.ensures _ c.word_at.ensures)
+    (omega arith)
 
 pub returns : goal.returns
 unfolding nine_about
-returns c =
-    let l = c.loop-k in
-    filled-end 9 l.invariant.1 (omega arith) refl
+returns c = filled-end 9 c.loop-k.invariant (omega arith) refl

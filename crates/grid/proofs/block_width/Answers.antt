@@ -1,8 +1,0 @@
--- `grid::block_width` meets its contract, by the depth. Assumes nothing.
-use Rattle.grid.proofs.block_width.Goals as goal
-
-pub returns-then-is2bpp : goal.returns-then-is2bpp
-returns-then-is2bpp c = rw c.if-is2bpp.true
-
-pub returns-else-is2bpp : goal.returns-else-is2bpp
-returns-else-is2bpp c = rw c.if-is2bpp.false
