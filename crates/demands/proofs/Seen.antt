@@ -1,12 +1,5 @@
 -- Whatever call gives a word, it is the picture's texel, of a picture that the call accepted. Assumes nothing.
-use Rattle.std.proofs.Common.{Result, Ok}
-use mathlib.Core.Path.{◌≡◌, refl, sym, ap, ◌∙◌}
-use mathlib.Core.Bool.{cond}
-use mathlib.Core.List.{List}
-use Prim.Native.Nat.{ℕ, ◌+◌, ◌*◌, ◌<◌}
-use native.Mathlib.Omega.{arith}
-use lib.Dec.{eqb}
-use lib.ListN.{length, get_or}
+use Rattle.std.proofs.Common.{◌≡◌, ℕ, ◌+◌, ◌*◌, ◌<◌, cond, eqb, List, length, get_or, Ok, Result, sym, refl, ap, ◌∙◌, arith}
 use Rattle.files.specs.Fields.{u32_at}
 use Rattle.ktx.specs.Picture as ktx
 use Rattle.ktx.specs.Picture.{KtxDecoded}

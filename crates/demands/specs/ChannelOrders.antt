@@ -1,7 +1,6 @@
 -- The order of channels over every call, as document 02 says it (W6): blue first all answers are what they were, red first each word is the
 -- same texel's with two bytes exchanged. Assumes nothing: these are definitions.
-use Rattle.std.specs.Prelude.{Result}
-use Rattle.std.specs.Prelude.{◌≡◌, cond, List, ◌++◌, ℕ, ◌+◌, ◌*◌, ◌/◌, ◌%◌, ◌<◌, eqb, get_or, drop}
+use Rattle.std.specs.Prelude.{◌≡◌, cond, List, ◌++◌, ℕ, ◌+◌, ◌*◌, ◌/◌, ◌%◌, ◌<◌, eqb, get_or, drop, Result}
 use Rattle.facts.specs.Tab.{tab}
 use Rattle.grid.specs.Grid.{half}
 use Rattle.pixel.specs.Pixel.{Pixel, exchanged}

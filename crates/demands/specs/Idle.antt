@@ -1,7 +1,6 @@
 -- Demand 1, against idle versions: inputs at which each of them would break a promise, at either depth, in either mode and in either order.
 -- Assumes nothing: these are definitions.
-use Rattle.std.specs.Prelude.{Result, Ok}
-use Rattle.std.specs.Prelude.{◌≡◌, Bool, List, ℕ, ◌+◌, ◌*◌, ◌%◌, ◌<◌, get_or, replicate}
+use Rattle.std.specs.Prelude.{◌≡◌, Bool, List, ℕ, ◌+◌, ◌*◌, ◌%◌, ◌<◌, get_or, replicate, Result, Ok}
 use Rattle.grid.specs.Grid.{half, block_width}
 use Rattle.pixel.specs.declared.ChannelOrder.{ChannelOrder}
 use Rattle.pvrtc.specs.Calls.{TexelRead, RowDecoded, BlockDecoded}

@@ -1,6 +1,5 @@
 -- The levels of a file beside one another, and level 0 beside the plate. Assumes nothing: these are definitions.
-use Rattle.std.specs.Prelude.{Result, Ok}
-use Rattle.std.specs.Prelude.{◌≡◌, Bool, true, false, cond, List, ◌++◌, ◌↔◌, ℕ, ◌+◌, ◌*◌, ◌≤◌, ◌<◌, ltb, length, get_or}
+use Rattle.std.specs.Prelude.{◌≡◌, Bool, true, false, cond, List, ◌++◌, ◌↔◌, ℕ, ◌+◌, ◌*◌, ◌≤◌, ◌<◌, ltb, length, get_or, Result, Ok}
 use Rattle.facts.specs.Checks.{first_of}
 use Rattle.files.specs.Fields.{u32_at}
 use Rattle.khronos.specs.Agrees.{Bytes}

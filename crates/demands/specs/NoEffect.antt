@@ -1,6 +1,5 @@
 -- What of a file has no effect, over everything that reads one. Assumes nothing: these are definitions.
-use Rattle.std.specs.Prelude.{Result}
-use Rattle.std.specs.Prelude.{◌≡◌, true, false, List, ◌++◌, ◌↔◌, ℕ, ◌+◌, ◌≤◌, length, get_or}
+use Rattle.std.specs.Prelude.{◌≡◌, true, false, List, ◌++◌, ◌↔◌, ℕ, ◌+◌, ◌≤◌, length, get_or, Result}
 use Rattle.pvr.specs.Header.{unknown_flags, HeaderRead as PvrHeaderRead}
 use Rattle.pvr.specs.NoEffect.{may_differ}
 use Rattle.ktx.specs.Header.{is_ktx, payload_offset, HeaderRead as KtxHeaderRead}
