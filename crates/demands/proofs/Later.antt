@@ -74,7 +74,8 @@ module _ (file more : List ℕ) (enough : payload_offset file + need (plate_of f
       (λ none. painted_same 0 w w p.height _ _ old (omega arith) (λ x y _ _. texel order (length old) none x y))
       ∙ sym (words-alike old (number (length old)) (ap (in_order order) (same-picture header)) data-more)
 
-  pub picture-unread : (order : ChannelOrder) (old new : List ℕ) (r : Result (Unit {0}) KtxRefusal) → KtxDecoded order file old new r ↔ KtxDecoded order (file ++ more) old new r
+  pub picture-unread : (order : ChannelOrder) (old new : List ℕ) (r : Result (Unit {0}) KtxRefusal) → KtxDecoded order file old new r
+      ↔ KtxDecoded order (file ++ more) old new r
   picture-unread order old new r =
       let n = number (length old) in (
         λ a. record { number = a.number ∙ sym n; words = a.words ∙ words order old },

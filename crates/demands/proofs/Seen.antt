@@ -40,7 +40,8 @@ pub of-wrote : {n : ℕ} {done old new : List ℕ} → Wrote n done old new 0 �
 of-wrote w = record { number = w.number; words = w.words }
 
 -- the picture and the data of a call may be replaced by equal ones
-pub moved-block : {p q : Picture} {d e old new : List ℕ} {r : Result (Unit {0}) Refusal} → p ≡ q → d ≡ e → BlockDecoded p d old new r → BlockDecoded q e old new r
+pub moved-block : {p q : Picture} {d e old new : List ℕ} {r : Result (Unit {0}) Refusal} → p ≡ q → d ≡ e → BlockDecoded p d old new r
+    → BlockDecoded q e old new r
 moved-block ep ed b = rw (← ep, ← ed) b
 
 -- a decoded KTX file is the block call's picture of its data
