@@ -47,6 +47,14 @@ pub struct RowAddresses {
     pub below: usize,
 }
 
+// The addresses of a column's three words: above a block, its own and below it.
+#[derive(Clone, Copy)]
+pub struct Addresses {
+    pub above: usize,
+    pub own: usize,
+    pub below: usize,
+}
+
 // What a word's modulation says of a texel: the weight of colour B, and what is kept of the blend.
 #[derive(Clone, Copy)]
 pub struct Meaning {
@@ -54,10 +62,10 @@ pub struct Meaning {
     pub keep: u64,
 }
 
-// A column, what it adds to an address, and what the modulation of its own word says.
+// A column: where its words stand, their colours summed, and what the modulation of its own word says.
 #[derive(Clone, Copy)]
 pub struct Block<M> {
-    pub part: usize,
+    pub at: Addresses,
     pub column: Column,
     pub said: M,
 }
