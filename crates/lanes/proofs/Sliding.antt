@@ -1,5 +1,5 @@
 -- The window slides along a row of blocks, at either depth, and its texels are the grid's. Assumes nothing.
-use Rattle.std.proofs.Common.{◌≡◌, refl, sym, ap, ◌∙◌, Bool, List, ℕ, ◌+◌, ◌*◌, ◌%◌, ◌≤◌, ◌<◌, arith, length}
+use Rattle.std.proofs.Common.{◌≡◌, refl, ap, ◌∙◌, Bool, List, ℕ, ◌+◌, ◌*◌, ◌%◌, ◌≤◌, ◌<◌, arith, length}
 use Rattle.facts.proofs.Numbers.{split}
 use Rattle.grid.specs.declared.Grid.{Grid}
 use Rattle.grid.specs.Grid.{half, block_width, log2, address, beside}
@@ -15,7 +15,7 @@ use Rattle.lanes.specs.declared.Meaning.{Meaning}
 use Rattle.lanes.specs.declared.RowAddresses.{RowAddresses}
 use Rattle.lanes.specs.Block.{Said, Middle, in_block, block_of}
 use Rattle.lanes.specs.BlockRow.{column_words, InData, Ready}
-use Rattle.lanes.specs.Column.{word_at, column_of, SmallColumn}
+use Rattle.lanes.specs.Column.{word_at, SmallColumn}
 use Rattle.lanes.proofs.Placing.{place_in, place_at, RowAt, part-seen, in-data, word-above, word-own, word_below}
 use Rattle.lanes.proofs.Window.{column_at, window-texel}
 

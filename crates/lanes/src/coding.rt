@@ -75,13 +75,7 @@ impl Modulation for Codes {
     }
 
     // At 4bpp nothing is filled.
-    fn fill(
-        _left: Codes,
-        own: Codes,
-        _right: Codes,
-        _d: &[u8],
-        _at: Addresses,
-    ) -> Codes {
+    fn fill(_left: Codes, own: Codes, _right: Codes, _d: &[u8], _at: Addresses) -> Codes {
         own
     }
 

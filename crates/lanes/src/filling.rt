@@ -164,13 +164,7 @@ impl Modulation for Weights {
         read_rows(d, z)
     }
 
-    fn fill(
-        left: Weights,
-        own: Weights,
-        right: Weights,
-        d: &[u8],
-        at: Addresses,
-    ) -> Weights {
+    fn fill(left: Weights, own: Weights, right: Weights, d: &[u8], at: Addresses) -> Weights {
         fill_rows(left, own, right, read_rule(d, at))
     }
 

@@ -23,7 +23,8 @@ pub struct ColorLanes {
     pub b: u64,
 }
 
-// Three words of a column, the one above a block, its own and the one below, summed for rows 0 to 3 of the block: colour A and colour B.
+// Three words of a column, the one above a block, its own and the one below, summed for rows 0 to 3 of the block: colour A and colour B. That its
+// numbers are small (`SmallColumn`) is no field of it: `column_of` makes columns in specs/, which may not name the lemma. So it is with `Weights`.
 #[derive(Clone, Copy)]
 pub struct Column {
     pub a: [u64; 4],
