@@ -7,7 +7,7 @@ use Prim.Native.Nat.{ℕ, zero, suc, ◌^◌, ◌+◌, ◌-◌, ◌*◌, ◌/◌
 use native.Mathlib.Nat.{pow-le-pow_right, zero-lt-suc, div-eq_of_lt, add_assoc, div-one, div-div-eq-div-mul, div-add-mod', mod-eq_of_lt}
 use native.Mathlib.Omega.{arith}
 use lib.Dec.{T}
-use lib.ListN.{length, get_or, take, drop, length-drop, drop_of_length-le, get_or-append, get_or-eq_default}
+use lib.ListN.{length, get_or, take, drop, length-drop, drop_of_length-le, get_or-append}
 use Rattle.std.specs.Slice.{IsGetRangeResult}
 use Rattle.std.specs.Option.{unwrap_or}
 use Rattle.std.specs.Int.{to_le_bytes, from_le_bytes, w32, w64}
@@ -88,16 +88,16 @@ pub next-read : (bytes rest : List ℕ) {k v : ℕ} → k < length bytes → v �
 next-read bytes rest {k} within read before =
     below_more _ _ (λ j h. let other : j ≢ k = omega arith in rw get_or-set_other (before j h)) (rw get_or-set_same read)
 
--- the rest of a file from a place on, or nothing where the place is behind its end: what is read there is read from the file
-pub rest-read : (file : List ℕ) (at k : ℕ) (rest : Option (Bor (List ℕ))) (none : Bor (List ℕ)) {found : Bor (List ℕ)}
-    → IsGetRangeResult file at (length file) rest → none.now ≡ [] → found ≡ unwrap_or rest none → get_or found.now k 0 ≡ get_or file (at + k) 0
-rest-read file at k None none past z e =
-    let behind : length file ≤ at + k = ⊎_elim (λ (l : length file < at). omega arith) (λ (l : length file < length file). omega arith) past.0 in
-    ap (λ (b : Bor (List ℕ)). get_or b.now k 0) e ∙ ap (λ (l : List ℕ). get_or l k 0) z ∙ sym (get_or-eq_default file 0 {n = at + k} behind)
-rest-read file at k (Some x) none part z e =
-    ap (λ (b : Bor (List ℕ)). get_or b.now k 0) e
-    ∙ ap (λ (l : List ℕ). get_or l k 0) (part.0.2 ∙ take_all (length file - at) (drop at file) (omega (arith, length-drop at file)))
-    ∙ get_or-drop at file k 0
+-- the rest of a file from a place on, or nothing where the place is behind its end
+pub rest-is : (file : List ℕ) (at : ℕ) (rest : Option (Bor (List ℕ))) (none : Bor (List ℕ)) {found : Bor (List ℕ)}
+    → IsGetRangeResult file at (length file) rest → none.now ≡ [] → found ≡ unwrap_or rest none → found.now ≡ drop at file
+rest-is file at None none past z e =
+    let behind : length file ≤ at = ⊎_elim (λ (l : length file < at). omega arith) (λ (l : length file < length file). omega arith) past.0 in
+    ap (λ (b : Bor (List ℕ)). b.now) e ∙ z ∙ sym (drop_of_length-le file behind)
+rest-is file at (Some x) none part z e =
+    ap (λ (b : Bor (List ℕ)). b.now) e
+    ∙ part.0.2
+    ∙ take_all (length file - at) (drop at file) (omega (arith, length-drop at file))
 
 -- bytes read one by one, put together as the library puts them
 pub four-read : (file : List ℕ) (at : ℕ) (bytes : List ℕ) → ((k : ℕ) → k < 4 → get_or bytes k 0 ≡ get_or file (at + k) 0)

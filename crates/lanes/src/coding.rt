@@ -4,7 +4,7 @@ ghost use Rattle.lanes.specs.Block4bpp.{codes_of, codes_at, code_meaning};
 ghost use Rattle.std.proofs.Common.{refl};
 
 use crate::modulation::{KEPT, Modulation, mode_at};
-use crate::{Codes, Meaning, RowAddresses};
+use crate::{Addresses, Codes, Meaning};
 
 // Of a texel that is punched through alpha is cleared.
 const CLEAR: u64 = 0x000000ff00ff00ff;
@@ -75,14 +75,7 @@ impl Modulation for Codes {
     }
 
     // At 4bpp nothing is filled.
-    fn fill(
-        _left: Codes,
-        own: Codes,
-        _right: Codes,
-        _d: &[u8],
-        _row: RowAddresses,
-        _part: usize,
-    ) -> Codes {
+    fn fill(_left: Codes, own: Codes, _right: Codes, _d: &[u8], _at: Addresses) -> Codes {
         own
     }
 

@@ -3,9 +3,10 @@ ghost use Rattle.std.specs.Prelude.{cond, ◌≡◌, ◌+◌, ◌*◌, ◌/◌, 
 ghost use Rattle.word.specs.Word.{color_of, blue_a, blue_b};
 ghost use Rattle.lanes.specs.Lanes.{bytes, channel_lanes, color_lanes, widened, spread_of, fitted, mixed_lanes, shared, Mask};
 ghost use Rattle.facts.specs.Tab.{tab};
+ghost use Rattle.lanes.specs.BlockRow.{InData};
 ghost use Rattle.lanes.specs.Column.{lanes_a, lanes_b, column_of, across, SmallColumn, SmallSums};
 
-use crate::{ColorLanes, Column, Sums};
+use crate::{Addresses, ColorLanes, Column, Sums};
 use pixel::ChannelOrder;
 
 const ONES: u64 = 0x0001000100010001;
@@ -127,14 +128,14 @@ fn downwards(above: u64, own: u64, below: u64) -> [u64; 4]
     ]
 }
 
-// The column of the words at the addresses above a block, its own and below it.
-pub fn summed(d: &[u8], above: usize, own: usize, below: usize, order: ChannelOrder) -> Column
-    requires { (8 * above + 8 ≤ length d.now) × (8 * own + 8 ≤ length d.now) × (8 * below + 8 ≤ length d.now) }
-    ensures { (result ≡ column_of order d.now above own below) × SmallColumn result }
+// A column's three words, summed.
+pub fn summed(d: &[u8], at: Addresses, order: ChannelOrder) -> Column
+    requires { InData at (length d.now) }
+    ensures { (result ≡ column_of order d.now at.above at.own at.below) × SmallColumn result }
 {
-    let above = colors_at(d, above, order);
-    let own = colors_at(d, own, order);
-    let below = colors_at(d, below, order);
+    let above = colors_at(d, at.above, order);
+    let own = colors_at(d, at.own, order);
+    let below = colors_at(d, at.below, order);
     Column {
         a: downwards(above.a, own.a, below.a),
         b: downwards(above.b, own.b, below.b),

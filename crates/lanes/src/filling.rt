@@ -1,13 +1,14 @@
 // Rows of weights at 2bpp, as they are stored and as they are filled.
 ghost use Rattle.std.specs.Prelude.{true, false, cond, ◌≡◌, ◌+◌, ◌*◌, ◌/◌, ◌<◌, ◌≤◌, eqb, length, get_or};
 ghost use Rattle.lanes.specs.Column.{word_at};
+ghost use Rattle.lanes.specs.BlockRow.{InData};
 ghost use Rattle.lanes.specs.Block2bpp.{bit_row, code_row, byte_row, weight_row, weight_rows, fill_rule_of, filled_row, filled_rows, LowRow, LowRows};
 ghost use Rattle.lanes.specs.Block2bpp.{weight_meaning, FewTimes, LowRule};
 ghost use Rattle.std.proofs.Common.{refl};
 
 use crate::colors::pick;
 use crate::modulation::{KEPT, Modulation, mode_at};
-use crate::{FillRule, Meaning, RowAddresses, Weights};
+use crate::{Addresses, FillRule, Meaning, Weights};
 
 // A byte's bits as weights of 0 and 8.
 fn bits_row(b: u8) -> u64
@@ -81,18 +82,19 @@ fn read_rows(d: &[u8], z: usize) -> Weights
     }
 }
 
-// How the block of the word `own` is filled, by its own word and those above and below it: of these it reads the rows over the edges, row 3 of
-// the word above and row 0 of the word below.
-fn read_rule(d: &[u8], above: usize, own: usize, below: usize) -> FillRule
-    requires { (8 * above + 8 ≤ length d.now) × (8 * own + 8 ≤ length d.now) × (8 * below + 8 ≤ length d.now) }
-    ensures { (result ≡ fill_rule_of (word_at d.now above) (word_at d.now own) (word_at d.now below)) × LowRule result }
+// How the block of a column's own word is filled, by its three words: of the outer two it reads the rows over the edges, row 3 of the word above
+// and row 0 of the word below.
+fn read_rule(d: &[u8], at: Addresses) -> FillRule
+    requires { InData at (length d.now) }
+    ensures { (result ≡ fill_rule_of (word_at d.now at.above) (word_at d.now at.own) (word_at d.now at.below)) × LowRule result }
 {
-    let bit = (d[8 * own] % 2) as u64;
-    let high = (d[8 * own + 2] / 16 % 2) as u64;
+    let own = 8 * at.own;
+    let bit = (d[own] % 2) as u64;
+    let high = (d[own + 2] / 16 % 2) as u64;
     FillRule {
-        above: odd_row(d[8 * above + 3], mode_at(d, above)),
-        below: first_row(d[8 * below], mode_at(d, below)),
-        mode: mode_at(d, own),
+        above: odd_row(d[8 * at.above + 3], mode_at(d, at.above)),
+        below: first_row(d[8 * at.below], mode_at(d, at.below)),
+        mode: mode_at(d, at.own),
         beside: 1 + bit - 2 * bit * high,
         upright: 1 - bit + 2 * bit * high,
     }
@@ -162,16 +164,8 @@ impl Modulation for Weights {
         read_rows(d, z)
     }
 
-    fn fill(
-        left: Weights,
-        own: Weights,
-        right: Weights,
-        d: &[u8],
-        row: RowAddresses,
-        part: usize,
-    ) -> Weights {
-        let rule = read_rule(d, part + row.above, part + row.own, part + row.below);
-        fill_rows(left, own, right, rule)
+    fn fill(left: Weights, own: Weights, right: Weights, d: &[u8], at: Addresses) -> Weights {
+        fill_rows(left, own, right, read_rule(d, at))
     }
 
     fn row(self, j: usize) -> u64 {

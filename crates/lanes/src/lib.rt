@@ -23,7 +23,8 @@ pub struct ColorLanes {
     pub b: u64,
 }
 
-// Three words of a column, the one above a block, its own and the one below, summed for rows 0 to 3 of the block: colour A and colour B.
+// Three words of a column, the one above a block, its own and the one below, summed for rows 0 to 3 of the block: colour A and colour B. That its
+// numbers are small (`SmallColumn`) is no field of it: `column_of` makes columns in specs/, which may not name the lemma. So it is with `Weights`.
 #[derive(Clone, Copy)]
 pub struct Column {
     pub a: [u64; 4],
@@ -47,6 +48,14 @@ pub struct RowAddresses {
     pub below: usize,
 }
 
+// The addresses of a column's three words: above a block, its own and below it.
+#[derive(Clone, Copy)]
+pub struct Addresses {
+    pub above: usize,
+    pub own: usize,
+    pub below: usize,
+}
+
 // What a word's modulation says of a texel: the weight of colour B, and what is kept of the blend.
 #[derive(Clone, Copy)]
 pub struct Meaning {
@@ -54,10 +63,10 @@ pub struct Meaning {
     pub keep: u64,
 }
 
-// A column, what it adds to an address, and what the modulation of its own word says.
+// A column: where its words stand, their colours summed, and what the modulation of its own word says.
 #[derive(Clone, Copy)]
 pub struct Block<M> {
-    pub part: usize,
+    pub at: Addresses,
     pub column: Column,
     pub said: M,
 }

@@ -4,11 +4,11 @@ ghost use Rattle.grid.specs.Grid.{half};
 ghost use Rattle.word.specs.Word.{mode};
 ghost use Rattle.lanes.specs.declared.Meaning.{Meaning};
 ghost use Rattle.lanes.specs.Block.{Said, Middle};
-ghost use Rattle.lanes.specs.BlockRow.{InColumn};
+ghost use Rattle.lanes.specs.BlockRow.{InData};
 ghost use Rattle.lanes.specs.Column.{word_at};
 ghost use Rattle.lanes.specs.Lanes.{Mask};
 
-use crate::{Meaning, RowAddresses};
+use crate::{Addresses, Meaning};
 
 // All of a texel.
 pub const KEPT: u64 = 0x00ff00ff00ff00ff;
@@ -39,11 +39,11 @@ pub trait Modulation: Copy {
         requires { 8 * z + 8 ≤ length d.now }
         ensures { (result ≡ stored (word_at d.now z)) × Good result };
 
-    // The middle one of nine words' blocks, in the column that adds `part` to an address, filled: it says what the definition says.
-    fn fill(left: Self, own: Self, right: Self, d: &[u8], row: RowAddresses, part: usize) -> Self
-        requires { Good left × Good own × Good right × InColumn row part (length d.now) }
+    // The middle one of nine words' blocks, whose column's words stand there, filled: it says what the definition says.
+    fn fill(left: Self, own: Self, right: Self, d: &[u8], at: Addresses) -> Self
+        requires { Good left × Good own × Good right × InData at (length d.now) }
         ensures { (of : ℕ → ℕ → List ℕ) → left ≡ stored (of 0 1) → own ≡ stored (of 1 1) → right ≡ stored (of 2 1)
-            → Middle of d.now row part → Said two of (λ y. says (row_of result y)) };
+            → Middle of d.now at → Said two of (λ y. says (row_of result y)) };
 
     fn row(self, j: usize) -> Self::Row
         requires { j < 4 }

@@ -8,5 +8,7 @@ use Rattle.convert.proofs.put_tga_header.Goals as goal
 
 pub returns : goal.returns
 returns c =
-    let a = c.args in
-    c.put.ensures ∙ ap (λ (l : List ℕ). laid l a.out.now) (header-bytes a.w a.h)
+    let w = c.to_le_bytes.result in
+    let h = c.to_le_bytes-2.result in
+    c.put.ensures
+    ∙ ap (λ (l : List ℕ). laid l c.args.out.now) (header-bytes c.args.w c.args.h c.to_le_bytes.ensures c.to_le_bytes-2.ensures)

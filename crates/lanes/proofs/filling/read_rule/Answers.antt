@@ -8,5 +8,5 @@ returns c =
     let a = c.args in
     let d = a.d.now in
     let small : (i : ℕ) → get_or d i 0 < 256 = λ i. omega (arith, c.type_inv.d i) in
-    rule-is d a.above a.own a.below small c.mode_at-3.ensures
-    (row-3 d a.above small c.mode_at.ensures c.odd_row.ensures) (row-0 d a.below small c.mode_at-2.ensures c.first_row.ensures)
+    rule-is d a.at.above a.at.own a.at.below small c.mode_at-3.ensures
+    (row-3 d a.at.above small c.mode_at.ensures c.odd_row.ensures) (row-0 d a.at.below small c.mode_at-2.ensures c.first_row.ensures)
