@@ -1,9 +1,5 @@
 -- `convert::check_limits` meets its contract: the limits are asked in their order. Assumes nothing.
-use mathlib.Core.Bool.{false}
-use mathlib.Core.List.{[], ◌∷◌}
-use mathlib.Core.Path.{◌≡◌, refl, sym, ap, ◌∙◌}
-use native.Mathlib.Omega.{arith}
-use lib.Dec.{ltb}
+use Rattle.std.proofs.Common.{◌≡◌, false, ltb, [], ◌∷◌, sym, refl, ap, ◌∙◌, arith}
 use Rattle.facts.specs.Checks.{check}
 use Rattle.facts.proofs.Checks.{none_said}
 use Rattle.facts.proofs.Said.{at_exit}

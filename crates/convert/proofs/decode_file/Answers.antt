@@ -1,6 +1,5 @@
 -- `convert::decode_file` meets its contract: the header speaks, then the limits, then the block call. Assumes nothing.
-use mathlib.Core.Path.{◌≡◌, refl, ap, ◌∙◌}
-use lib.ListN.{drop}
+use Rattle.std.proofs.Common.{◌≡◌, drop, refl, ap, ◌∙◌}
 use Rattle.facts.proofs.Said.{at_exit}
 use Rattle.files.specs.declared.Stored.{Stored}
 use Rattle.files.proofs.Fields.{rest-is}

@@ -1,6 +1,5 @@
 -- `samples::set_u32` meets its contract. The loop keeps that the first k bytes of the number are put. Assumes nothing.
-use mathlib.Core.Path.{◌≡◌, ap, ◌∙◌}
-use native.Mathlib.Omega.{arith}
+use Rattle.std.proofs.Common.{◌≡◌, ap, ◌∙◌, arith}
 use Rattle.samples.proofs.Laws.{placed, placed_none, placed_more, placed_all}
 use Rattle.samples.proofs.set_u32.Goals as goal
 

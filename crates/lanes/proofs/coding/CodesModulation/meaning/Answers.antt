@@ -1,5 +1,5 @@
 -- `meaning` of `lanes::Codes` meets its contract, at each of the eight codes. Assumes nothing.
-use Rattle.std.proofs.Common.{◌≡◌, refl, ℕ, zero, suc, ◌*◌, ◌/◌, ◌%◌, ◌^◌, ◌<◌, ◌≤◌, Bool, true, false, cond, ◌&&◌, eqb, List, [], ◌∷◌, slice_index_or, arith}
+use Rattle.std.proofs.Common.{◌≡◌, ℕ, zero, suc, ◌*◌, ◌/◌, ◌%◌, ◌^◌, ◌<◌, ◌≤◌, Bool, true, false, cond, ◌&&◌, eqb, List, [], ◌∷◌, slice_index_or, refl, arith}
 use mir.Val.{bool_byte}
 use Rattle.word.specs.Word.{standard_weight, punch_through_weight}
 use Rattle.lanes.specs.declared.Meaning.{Meaning}
