@@ -7,13 +7,15 @@ use Rattle.lanes.specs.Block4bpp.{code_meaning}
 use Rattle.lanes.specs.Lanes.{bytes, clear, Mask}
 use Rattle.lanes.proofs.coding.CodesModulation.meaning.Goals as goal
 
+-- a code that is kept whole
+abbrev whole : ℕ → Meaning
+whole w = record { weight = w; keep = bytes }
+
 -- what mode p's code k is read as
 abbrev told : Bool → ℕ → Meaning
 told p k =
     slice_index_or (slice_index_or {A = List Meaning} (
-    (record { weight = 0; keep = bytes } ∷ record { weight = 3; keep = bytes } ∷ record { weight = 5; keep = bytes } ∷ record { weight = 8; keep = bytes } ∷ [])
-    ∷ (record { weight = 0; keep = bytes } ∷ record { weight = 4; keep = bytes } ∷ record { weight = 4; keep = clear } ∷ record { weight = 8; keep = bytes } ∷ [])
-    ∷ []
+    (whole 0 ∷ whole 3 ∷ whole 5 ∷ whole 8 ∷ []) ∷ (whole 0 ∷ whole 4 ∷ record { weight = 4; keep = clear } ∷ whole 8 ∷ []) ∷ []
     ) (bool_byte p) []) k (record { weight = 0; keep = 0 })
 
 abbrev Means : Bool → ℕ → Meaning → Type 0
