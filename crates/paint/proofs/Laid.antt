@@ -195,7 +195,7 @@ row-part {f} {old} {start} {stride} {n} {j} {img} {new} {at} r l m ea e =
     part-is l (e ∙ ap₂ (λ (k : ℕ) (i : List ℕ). painted k n n 1 (λ x y. f x j) i) ea r.is ∙ row_more start stride n j f old l m)
 
 -- words put in the place of as many lay one row
-put : (to n : ℕ) (f : ℕ → ℕ → ℕ) (mid old : List ℕ) → to + n ≤ length old → length mid ≡ n → ((x : ℕ) → x < n → get_or mid x 0 ≡ f x 0)
+pub put : (to n : ℕ) (f : ℕ → ℕ → ℕ) (mid old : List ℕ) → to + n ≤ length old → length mid ≡ n → ((x : ℕ) → x < n → get_or mid x 0 ≡ f x 0)
     → take to old ++ (mid ++ drop n (drop to old)) ≡ painted to n n 1 f old
 put to n f mid old fits long same =
     is-painted to n n 1 (omega arith) f old (take to old ++ (mid ++ drop n (drop to old))) (grind (arith, elements)) new rest
