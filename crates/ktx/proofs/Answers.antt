@@ -3,16 +3,14 @@ use Rattle.std.proofs.Common.{◌≡◌, ℕ, ◌<◌, false, eqb, ◌↔◌, Li
 use Rattle.facts.specs.Checks.{Given, check, first_of}
 use Rattle.facts.proofs.Checks.{exactly-when, said-first, said-later}
 use Rattle.files.specs.Fields.{bits_of}
-use Rattle.files.specs.Reading.{Shown}
 use Rattle.files.specs.declared.Stored.{Stored}
-use Rattle.files.proofs.Answers as answers
 use Rattle.files.proofs.Fields.{same-depth}
 use Rattle.ktx.specs.declared.HeaderRefusal.{HeaderRefusal}
 use Rattle.ktx.specs.declared.Plate.{Plate}
 use Rattle.ktx.specs.Header.{width_field, height_field, is_two, payload_offset, size_word_of}
 use Rattle.ktx.specs.Header.{field_checks, header_checks, header_refusal, number_of, header_number, HeaderRead}
 use Rattle.ktx.specs.Numbers.{number-above}
-use Rattle.ktx.specs.Reading.{ktx_plate, ktx_says, FieldsRead}
+use Rattle.ktx.specs.Reading.{ktx_plate, FieldsRead}
 
 -- what an answered plate says: no refusal's condition holds, and its values are the header's
 pub record PlateRead (file : List ℕ) (p : Plate) : Type 0 where
@@ -54,17 +52,9 @@ module _ {file : List ℕ} where
           said = rw e at r.size;
         }
 
--- what the fields' reader answers, by what the fields say
+-- what the fields' reader answers
 module _ (file : List ℕ) where
-  pub fields-refused : {f : HeaderRefusal} → number_of f ≡ first_of (field_checks file) → FieldsRead file (Err f)
-  fields-refused {f} e =
-      let n : eqb (first_of (field_checks file)) 0 ≡ false = ne_eqb (first_of (field_checks file)) 0 (omega (arith, number-above f)) in
-      record { number = e; plate = rw n refl }
-
-  pub fields_read : {s : Stored} → 0 ≡ first_of (field_checks file) → s ≡ ktx_plate file → FieldsRead file (Ok s)
-  fields_read none q = record { number = none; plate = rw (← none) q }
-
-  -- from what it answers to the header's answer
+  -- leads to the header's answer
   pub by-fields : {f : HeaderRefusal} → FieldsRead file (Err f) → HeaderRead file (Err f)
   by-fields {f} a = by-refusal (said-first (field_checks file) _ tt a.number (number-above f))
 
@@ -79,11 +69,6 @@ module _ (file : List ℕ) where
     pub by-cut : {n : ℕ} → n ≡ first_of (check s.cut 37 ∷ []) → n ≡ header_refusal file
     by-cut e =
         said-later (field_checks file) _ tt none (e ∙ ap (λ (s : Stored). first_of (check s.cut 37 ∷ [])) is-plate)
-
-  -- and to the one for the program
-  pub shown : {r : Result Stored HeaderRefusal} → FieldsRead file r → Shown number_of (ktx_says file) r
-  shown {r = Ok s} a = answers.by-plate a.number (is-plate a)
-  shown {r = Err f} a = answers.by_number a.number
 
 -- each number is given exactly when its condition holds and no earlier one does
 pub refused-when : {file : List ℕ} {r : Result Plate HeaderRefusal} → HeaderRead file r → (n : ℕ) → 0 < n → (header_number r ≡ n) ↔ Given (header_checks file) n

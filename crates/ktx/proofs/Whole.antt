@@ -55,7 +55,8 @@ module _ (file old : List ℕ) where
 
     -- it is accepted: what is said of its picture
     pub by-picture : {order : ChannelOrder} {new : List ℕ} {r : Result (Unit {0}) Refusal}
-        → SizedDecoded (picture p.width p.height p.is2bpp Stored order) p.size (take (length file - p.payload) (drop p.payload file)) old new r → KtxDecoded order file old new r
+        → SizedDecoded (picture p.width p.height p.is2bpp Stored order) p.size (take (length file - p.payload) (drop p.payload file)) old new r
+        → KtxDecoded order file old new r
     by-picture {order} {new} {r} a = record { number = b.number ∙ sym speaks; words = rw speaks b.words }
       where
         same-plate : picture p.width p.height p.is2bpp Stored order ≡ in_order order (plate_of file)
@@ -87,7 +88,8 @@ module _ (file : List ℕ) (accepted : header_refusal file ≡ 0) (fits : size_w
       let e = decides-in order (length old) in
       record { number = sym (same_number r) ∙ a.number ∙ e; words = rw (← e) a.words }
 
-  pub of-block : {order : ChannelOrder} {old new : List ℕ} (r : Result (Unit {0}) CallRefusal) → BlockDecoded (in_order order (plate_of file)) (level_data file) old new r
+  pub of-block : {order : ChannelOrder} {old new : List ℕ} (r : Result (Unit {0}) CallRefusal)
+      → BlockDecoded (in_order order (plate_of file)) (level_data file) old new r
       → KtxDecoded order file old new (called_as r)
   of-block {order} {old} r b =
       let e = decides-in order (length old) in

@@ -16,7 +16,8 @@ abbrev word : List ℕ → ℕ → ℕ
 word l k = get_or l k 0
 
 -- what an accepted texel call answers
-value-is : (p : Picture) (d : List ℕ) (x y : ℕ) {r : Result ℕ Refusal} → refusal p (call.Texel x y) d ≡ 0 → TexelRead p d x y r → texel_value r ≡ picture_texel p d x y
+value-is : (p : Picture) (d : List ℕ) (x y : ℕ) {r : Result ℕ Refusal} → refusal p (call.Texel x y) d ≡ 0 → TexelRead p d x y r
+    → texel_value r ≡ picture_texel p d x y
 value-is p d x y e t = t.value ∙ rw e
 
 module _ (p : Picture) (d : List ℕ) (x y : ℕ) (hx : x < p.width) {old new : List ℕ} where
@@ -47,7 +48,8 @@ module _ (p : Picture) (d : List ℕ) (x y : ℕ) (hx : x < p.width) {old new : 
   row-agrees w t =
       row_is w ∙ sym (value-is p d x y (texel-of-row p x y (length old) (length d) (accepted p (call.Row y (length old)) (length d) (sym w.number)) hx) t)
 
-  pub block-agrees : {r : Result ℕ Refusal} → y < p.height → BlockDecoded p d old new (Ok tt) → TexelRead p d x y r → get_or new (y * p.width + x) 0 ≡ texel_value r
+  pub block-agrees : {r : Result ℕ Refusal} → y < p.height → BlockDecoded p d old new (Ok tt) → TexelRead p d x y r
+      → get_or new (y * p.width + x) 0 ≡ texel_value r
   block-agrees hy w t =
       block-is hy w ∙ sym (value-is p d x y
       (texel-of-block p x y (length old) (length d) (accepted p (call.Block (length old)) (length d) (sym w.number)) hx hy) t)

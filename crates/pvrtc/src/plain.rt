@@ -25,8 +25,8 @@ fn applicate_color(nine: [PVRTCTexelInfo; 9], is2bpp: bool, order: ChannelOrder)
 {
     let width = grid::block_width(is2bpp);
     let mut buffer = [0u32; 32];
-    for i in 0..4 * width {
-        buffer[i] = texel::texel_in(nine, is2bpp, i % width, i / width, order);
+    for (i, texel) in buffer[..4 * width].iter_mut().enumerate() {
+        *texel = texel::texel_in(nine, is2bpp, i % width, i / width, order);
     }
     buffer
 }

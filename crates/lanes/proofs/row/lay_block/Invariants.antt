@@ -1,5 +1,5 @@
 -- `lanes::row::lay_block` meets its contract. The loop keeps that the rows before row j are laid. Assumes nothing.
-use Prim.Native.Nat.{◌-◌, ◌≤◌}
+use Rattle.std.proofs.Common.{◌-◌, ◌≤◌}
 use Rattle.paint.proofs.Laid.{Part}
 use Rattle.lanes.specs.Block.{in_block}
 use Rattle.lanes.proofs.row.lay_block.Given as goal
