@@ -5,14 +5,14 @@ use Rattle.std.specs.Io.KnownBytes.{Appends, Consumes}
 use Rattle.std.proofs.lemmas.List.{append-nil, length-take-le}
 use Rattle.std.proofs.Math.Seq.{take-append_seam, take_all}
 use Rattle.convert.specs.Output.{output, read_limit}
-use Rattle.plate.specs.Input.{Stopped, Answers}
+use Rattle.plate.specs.Input.{Stopped, came, Answers}
 
 -- no more bytes than the limit
 pub few : (count : ℕ) (left : Option (List ℕ)) → Stopped count left → count ≤ read_limit
 few count left = ⊎_elim (λ e. le_of_eq e) (λ h. h.0)
 
 -- what reads took is a file's first bytes, or all of it
-came_of : (file left bytes : List ℕ) (count : ℕ) → length bytes ≡ count → file ≡ bytes ++ left → Stopped count (Some left) → bytes ≡ take read_limit file
+came_of : (file left bytes : List ℕ) (count : ℕ) → length bytes ≡ count → file ≡ bytes ++ left → Stopped count (Some left) → came bytes file
 came_of file left bytes count same is =
     ⊎_elim
     (λ e. sym (ap (λ (k : ℕ). take k file) (sym (same ∙ e)) ∙ (ap (take (length bytes)) is ∙ take-append_seam bytes left)))

@@ -4,7 +4,7 @@
 ghost use Rattle.std.specs.Prelude.{◌≡◌, ◌-◌, ◌<◌, ◌≤◌, length, take, drop, IfSome, IfOk, IfErr, OnOk};
 ghost use Rattle.std.specs.Io.KnownBytes.{Appends, Consumes};
 ghost use Rattle.convert.specs.Output.{Room, output, read_limit};
-ghost use Rattle.plate.specs.Input.{Within, Took, Stopped, Answers, IsUnread, KeptIfUnread};
+ghost use Rattle.plate.specs.Input.{meant, Within, Took, Stopped, Answers, IsUnread, KeptIfUnread};
 
 use convert::{IMAGE_WORDS, OUT_BYTES};
 use std::{fmt, io};
@@ -28,16 +28,23 @@ impl fmt::Display for Failure {
     }
 }
 
+// What an answer of std's `read` means: so many bytes, or at 0 that the input has ended.
+fn meaning(got: io::Result<usize>) -> Result<Option<usize>, Failure>
+    ensures { result ≡ meant got }
+{
+    match got {
+        Ok(0) => Ok(None),
+        Ok(n) => Ok(Some(n)),
+        Err(_) => Err(Failure::Unread),
+    }
+}
+
 // One read into buf: how many bytes it gave, or that the input has ended.
 fn read_some<R: io::Read>(from: &mut R, buf: &mut [u8]) -> Result<Option<usize>, Failure>
     ensures bound { Within result (length buf.new) }
     ensures took { 0 < length buf.new → Took (R.remaining from.old) (R.remaining from.new) buf.new result }
 {
-    match from.read(buf) {
-        Ok(0) => Ok(None),
-        Ok(n) => Ok(Some(n)),
-        Err(_) => Err(Failure::Unread),
-    }
+    meaning(from.read(buf))
 }
 
 // One read into buf from place `at` on, where there is room: into no room at all, 0 bytes would not mean the end.
