@@ -83,14 +83,8 @@ impl fmt::Display for Shape {
 
     fn fmt<W: fmt::Write>(&self, f: &mut fmt::Formatter<W>) -> fmt::Result {
         let p = self.0;
-        write!(
-            f,
-            "{} x {}, {}{}",
-            p.width,
-            p.height,
-            Depth(p.is2bpp),
-            Order(p.order)
-        )
+        let (width, height, depth, order) = (p.width, p.height, Depth(p.is2bpp), Order(p.order));
+        write!(f, "{width} x {height}, {depth}{order}")
     }
 }
 
