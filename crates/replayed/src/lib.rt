@@ -12,6 +12,7 @@ ghost use Rattle.pvrtc.specs.Picture.{picture};
 ghost use Rattle.pvrtc.specs.declared.GridMode.TheVariants as mode;
 ghost use Rattle.listing.specs.Names.{taken_need};
 
+use convert::{IMAGE_WORDS, OUT_BYTES};
 pub use fault::Fault;
 use pixel::ChannelOrder;
 use pvrtc::GridMode;
@@ -38,13 +39,17 @@ pub fn with_output<R, F: FnOnce(&[u8]) -> R>(file: &[u8], lend: F) -> R
     requires { F.IsAlwaysCallable lend }
     ensures { FnOnceReturnsAt F.FnOnce lend (output file.now) result }
 {
-    let mut image = [0; 131072];
-    let mut out = [0; 524306];
+    let mut image = [0; IMAGE_WORDS];
+    let mut out = [0; OUT_BYTES];
     lend(convert_into(file, &mut image, &mut out))
 }
 
 // The same, into arrays that are lent whole: where they are made, a proof would count them through.
-fn convert_into<'a>(file: &[u8], image: &mut [u32; 131072], out: &'a mut [u8; 524306]) -> &'a [u8]
+fn convert_into<'a>(
+    file: &[u8],
+    image: &mut [u32; IMAGE_WORDS],
+    out: &'a mut [u8; OUT_BYTES],
+) -> &'a [u8]
     ensures { result.now ≡ output file.now }
 {
     let count = convert::convert(file, image, out);
