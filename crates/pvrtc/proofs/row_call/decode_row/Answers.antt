@@ -3,7 +3,7 @@
 use Rattle.std.proofs.Common.{◌≡◌, ℕ, ◌/◌, ◌%◌, ◌<◌, ◌≤◌, length, sym, refl, ap, ◌∙◌, ap₂, arith}
 use Rattle.grid.specs.declared.Grid.{Grid}
 use Rattle.grid.specs.Grid.{block_width}
-use Rattle.grid.specs.Words.{Stands, InGrid}
+use Rattle.grid.specs.Words.{InGrid}
 use Rattle.grid.proofs.Words.{some-across}
 use Rattle.paint.proofs.Laid.{row-none}
 use Rattle.paint.specs.Paint.{painted}
@@ -34,6 +34,9 @@ ok_of c = let a = c.args in accepted a.p (call.Row a.y (length a.row.now)) (leng
 pub overflow_sub-g : goal.overflow_sub-g
 overflow_sub-g c = rw c.grid_of-g.ensures (some-across (stands (ok_of (goal.at.overflow_sub-g c).In_ok-check)))
 
+pub invariant_of-w : goal.invariant_of-w
+invariant_of-w c = record { stands = stands-as (ok_of (goal.at.invariant_of-w c).In_ok-check) c.grid_of-g.ensures }
+
 pub first_words-nine-requires : goal.first_words-nine-requires
 first_words-nine-requires c =
     let a = c.args in
@@ -41,7 +44,7 @@ first_words-nine-requires c =
     let some = some-across (stands ok) in
     let row = (block_in ok 0 a.y (width_above a.p ok.sides) (row_inside a.p a.y (length a.row.now) ok.inside)).down in
     let grid = c.grid_of-g.ensures in
-    (stands-as ok grid, rw grid (record { across = omega arith; down = row }), omega arith)
+    (rw grid (record { across = omega arith; down = row }), omega arith)
 
 pub loop-x-init : goal.loop-x-init
 loop-x-init c =
@@ -49,13 +52,10 @@ loop-x-init c =
     let words = held_none a.p.order c.grid_of-g.result a.«data».now a.y 0 c.first_words-nine.ensures refl in
     (omega arith, told (goal.at.loop-x-init c).In_ok-check, row-none _ _ _ _, words)
 
--- in the loop: the call is accepted, the words stand in the data, and the block of column x in the grid
+-- in the loop: the call is accepted, and the block of column x is one of the grid's
 ok_at : (l : At-loop-x) → let a = l.args in
     Accepted a.p (call.Row a.y (length a.row.now)) (length a.«data».now)
 ok_at l = let a = l.args in accepted a.p (call.Row a.y (length a.row.now)) (length a.«data».now) l.loop-x.invariant.1
-
-stands_at : (l : At-loop-x) → Stands (grid_at l) (length l.args.«data».now)
-stands_at l = stands-as (ok_at l) l.grid_of-g.ensures
 
 block_at : (l : At-loop-x) → let a = l.args in let g = grid_at l in
     l.loop-x.x < a.p.width → InGrid g (l.loop-x.x / block_width g.is2bpp) (a.y / 4)
@@ -68,7 +68,7 @@ block_at l h =
 pub next_words-nine-requires : goal.next_words-nine-requires
 next_words-nine-requires c =
     let l = (goal.at.next_words-nine-requires c).At-loop-x in
-    (stands_at l, rw c.block_width-width.ensures (block_at l c.loop-x-test.true), omega arith)
+    (rw c.block_width-width.ensures (block_at l c.loop-x-test.true), omega arith)
 
 pub texels_in-requires : goal.texels_in-requires
 texels_in-requires c =
