@@ -15,11 +15,17 @@ def row(marked):
     return [int(part, base) for part in marked.split("_")]
 
 
+def source(crate, name):
+    """A source file of a crate, with no comments."""
+    return re.sub(r"//[^\n]*", "", open(os.path.join(ROOT, "crates", crate, "src", name)).read())
+
+
 def tables(crate):
-    """The constants of a crate's tables, as lists of numbers or of rows."""
-    text = open(os.path.join(ROOT, "crates", crate, "src/tables.rt")).read()
+    """The tables of a crate, as lists of numbers or of rows. A fault is its number."""
+    faults = dict(re.findall(r"(\w+) = (\d+),", source("replayed", "fault.rt")))
     found = {}
-    for name, body in re.findall(r"pub const (\w+): [^=]*= (\[.*?\]);", re.sub(r"//[^\n]*", "", text), re.S):
+    for name, body in re.findall(r"pub (?:const|static) (\w+): [^=]*= (\[.*?\]);", source(crate, "tables.rt"), re.S):
+        body = re.sub(r"Fault::(\w+)", lambda fault: faults[fault.group(1)], body)
         found[name] = eval(re.sub(r"\w+_\w+", lambda marked: str(row(marked.group())), body))
     return found
 

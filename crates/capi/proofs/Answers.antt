@@ -1,42 +1,33 @@
 -- How answers become numbers, and come back from them. Assumes nothing.
-use mathlib.Core.Path.{◌≡◌, refl, sym, ap, ◌∙◌}
-use mathlib.Core.Bool.{Bool, cond}
-use mathlib.Core.List.{List}
-use Prim.Native.Nat.{ℕ, ◌*◌, ◌/◌, ◌%◌, ◌<◌}
-use native.Mathlib.Omega.{arith}
-use lib.Dec.{eqb}
-use lib.ListN.{drop}
-use borrow.Author.Tests.{eqb-true, ne_eqb}
+use Rattle.std.proofs.Common.{◌≡◌, ℕ, ◌*◌, ◌/◌, ◌%◌, ◌<◌, cond, eqb, List, drop, Ok, Err, Result, sym, refl, ◌∙◌, arith, ne_eqb, eqb-true}
 use Rattle.facts.proofs.Lists.{choice}
 use Rattle.grid.specs.Grid.{block_address}
 use Rattle.texel.proofs.Range.{texel-below}
-use Rattle.pvr.proofs.Answers.{PlateRead, of-plate, number-above}
+use Rattle.pvr.proofs.Answers.{of-plate}
 use Rattle.pvr.specs.Header as header
-use Rattle.files.specs.Fields.{bits_of}
-use Rattle.pvr.specs.Header.{header_number, HeaderRead}
-use Rattle.pvr.specs.declared.Header.{Header}
-use Rattle.pvr.specs.declared.Header.TheVariants.{Plate, Refused}
+use Rattle.pvr.specs.Header.{HeaderRead}
+use Rattle.pvr.specs.Numbers.{number-above}
 use Rattle.pvr.specs.declared.HeaderRefusal.{HeaderRefusal}
+use Rattle.pvr.specs.declared.Plate.{Plate}
 use Rattle.pvrtc.specs.Calls.{refusal, TexelRead, Written}
 use Rattle.pvrtc.specs.Picture.{grid_of, picture_texel}
-use Rattle.pvrtc.specs.Refusals.{number_of, decoded_number, texel_number, texel_value}
-use Rattle.pvrtc.specs.declared.Decoded.{Decoded}
+use Rattle.pvrtc.specs.Refusals.{number_of, decoded_number}
 use Rattle.pvrtc.specs.declared.Call.TheVariants as call
 use Rattle.pvrtc.specs.declared.Picture.{Picture}
 use Rattle.pvrtc.specs.declared.Refusal.{Refusal}
-use Rattle.pvrtc.specs.declared.Texel.{Texel}
-use Rattle.pvrtc.specs.declared.Texel.TheVariants as texel
-use Rattle.capi.specs.Plate.{texel_answer, Wrote, plate_field, field_of, header_field}
+use Rattle.capi.specs.Fields.{of_pvr, value}
+use Rattle.capi.specs.Plate.{texel_answer, Wrote, plate_field, sized_field, field_of, header_field}
 
-module _ (p : Picture) (d : List ℕ) (x y : ℕ) {r : Texel} (t : TexelRead p d x y r) where
-  pub of_word : {v : ℕ} → r ≡ texel.Word v → v ≡ texel_answer p d x y
-  of_word e = omega (arith, ap texel_number e, ap texel_value e, t.number, t.value)
+module _ (p : Picture) (d : List ℕ) (x y : ℕ) where
+  pub of_word : {v : ℕ} → TexelRead p d x y (Ok v) → v ≡ texel_answer p d x y
+  of_word t = omega (arith, t.number, t.value)
 
-  pub of-refusal : {f : Refusal} {n : ℕ} → r ≡ texel.Refused f → n ≡ number_of f → 4294967296 * n ≡ texel_answer p d x y
-  of-refusal e q = omega (arith, ap texel_number e, ap texel_value e, t.number, t.value)
+  pub of-refusal : {f : Refusal} {n : ℕ} → TexelRead p d x y (Err f) → n ≡ number_of f → 4294967296 * n ≡ texel_answer p d x y
+  of-refusal t q = omega (arith, t.number, t.value)
 
 -- a call that writes, its answer as a number
-pub of-written : {n : ℕ} {done old new : List ℕ} {r : Decoded} {v : ℕ} → v ≡ decoded_number r → Written n done old new r → Wrote n done old new v
+pub of-written : {n : ℕ} {done old new : List ℕ} {r : Result (Unit {0}) Refusal} {v : ℕ} → v ≡ decoded_number r → Written n done old new r
+    → Wrote n done old new v
 of-written e w = record { number = e ∙ w.number; words = w.words }
 
 -- no two outcomes of a call that writes meet its promise
@@ -57,20 +48,6 @@ module _ (p : Picture) (d : List ℕ) (x y : ℕ) where
   pub value-back : texel_answer p d x y % 4294967296 ≡ cond (eqb (refusal p (call.Texel x y) d) 0) (picture_texel p d x y) 0
   value-back = omega (arith, low)
 
--- each field of an accepted header by its number
-module _ (width height bits payload : ℕ) {field : ℕ} where
-  pub width-1 : field ≡ 1 → width ≡ plate_field width height bits payload field
-  width-1 e = rw e refl
-
-  pub height-2 : field ≡ 2 → height ≡ plate_field width height bits payload field
-  height-2 e = rw e refl
-
-  pub bits-3 : {n : ℕ} → field ≡ 3 → n ≡ bits → n ≡ plate_field width height bits payload field
-  bits-3 e same = rw e same
-
-  pub payload-4 : field ≡ 4 → payload ≡ plate_field width height bits payload field
-  payload-4 e = rw e refl
-
 -- how a header's answer becomes a field, whatever kind of file has it
 module _ {refusal v : ℕ} (value field : ℕ) where
   pub of-refused : {n : ℕ} → n ≡ refusal → 0 < n → v ≡ cond (eqb field 0) n 0 → v ≡ field_of refusal value field
@@ -80,15 +57,18 @@ module _ {refusal v : ℕ} (value field : ℕ) where
   pub of-accepted : refusal ≡ 0 → (field ≡ 0 → value ≡ 0) → v ≡ value → v ≡ field_of refusal value field
   of-accepted e none-at-0 q = rw e (q ∙ choice (λ (w : ℕ). value ≡ w) (eqb field 0) (λ z. none-at-0 (eqb-true field 0 z)) (λ _. refl))
 
--- of a PVR file
-module _ (file : List ℕ) (field : ℕ) {r : Header} (p : HeaderRead file r) where
-  pub field-of-refused : {f : HeaderRefusal} {n v : ℕ} → r ≡ Refused f → n ≡ header.number_of f → v ≡ cond (eqb field 0) n 0
-      → v ≡ header_field file field
-  field-of-refused {f} e q = of-refused _ field (q ∙ sym (ap header_number e) ∙ p.number) (omega (arith, number-above f))
+-- of a PVR file: without a size, field 5 is one that there is not
+no-size : (width height bits payload field : ℕ) → sized_field width height bits payload 0 field ≡ plate_field width height bits payload field
+no-size width height bits payload field =
+    choice (λ (v : ℕ). v ≡ plate_field width height bits payload field) (eqb field 5) (λ e. rw (eqb-true field 5 e) refl) (λ _. refl)
 
-  pub field-of-plate : (w h at : ℕ) (two : Bool) {v : ℕ} → r ≡ Plate w h two at → v ≡ plate_field w h (bits_of two) at field
+module _ (file : List ℕ) (field : ℕ) where
+  pub field-of-refused : {f : HeaderRefusal} {v : ℕ} → HeaderRead file (Err f) → v ≡ cond (eqb field 0) (header.number_of f) 0
       → v ≡ header_field file field
-  field-of-plate w h at two e q =
-      let read : PlateRead file w h two at = of-plate (rw e at p) in
+  field-of-refused {f} p q = of-refused _ field p.number (number-above f) q
+
+  pub field-of-plate : {plate : Plate} {v : ℕ} → HeaderRead file (Ok plate) → v ≡ value (of_pvr plate) field → v ≡ header_field file field
+  field-of-plate p q =
+      let read = of-plate p in
       let same = rw (read.width, read.height, read.depth, read.payload) at q in
-      of-accepted _ field read.accepted (λ z. rw z refl) same
+      of-accepted _ field read.accepted (λ z. rw z refl) (same ∙ no-size _ _ _ _ field)

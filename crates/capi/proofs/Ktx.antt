@@ -1,27 +1,20 @@
 -- What C is told of a KTX file's header, by what the reader answers. Assumes nothing.
-use mathlib.Core.Path.{◌≡◌, refl, sym, ap, ◌∙◌}
-use mathlib.Core.Bool.{Bool, cond}
-use mathlib.Core.List.{List}
-use Prim.Native.Nat.{ℕ}
-use native.Mathlib.Omega.{arith}
-use lib.Dec.{eqb}
-use Rattle.ktx.proofs.Answers.{PlateRead, of-plate, number-above}
-use Rattle.files.specs.Fields.{bits_of}
-use Rattle.ktx.specs.Header.{number_of, header_number, HeaderRead}
-use Rattle.ktx.specs.declared.Header.{Header}
-use Rattle.ktx.specs.declared.Header.TheVariants.{Plate, Refused}
+use Rattle.std.proofs.Common.{◌≡◌, ℕ, cond, eqb, List, Ok, Err, refl}
+use Rattle.ktx.proofs.Answers.{of-plate}
+use Rattle.ktx.specs.Header.{number_of, HeaderRead}
+use Rattle.ktx.specs.Numbers.{number-above}
 use Rattle.ktx.specs.declared.HeaderRefusal.{HeaderRefusal}
+use Rattle.ktx.specs.declared.Plate.{Plate}
+use Rattle.capi.specs.Fields.{of_ktx, value}
 use Rattle.capi.specs.Ktx.{ktx_field}
-use Rattle.capi.specs.Plate.{sized_field}
 use Rattle.capi.proofs.Answers.{of-refused, of-accepted}
 
-module _ (file : List ℕ) (field : ℕ) {r : Header} (p : HeaderRead file r) where
-  pub field-of-refused : {f : HeaderRefusal} {n v : ℕ} → r ≡ Refused f → n ≡ number_of f → v ≡ cond (eqb field 0) n 0 → v ≡ ktx_field file field
-  field-of-refused {f} e q = of-refused _ field (q ∙ sym (ap header_number e) ∙ p.number) (omega (arith, number-above f))
+module _ (file : List ℕ) (field : ℕ) where
+  pub field-of-refused : {f : HeaderRefusal} {v : ℕ} → HeaderRead file (Err f) → v ≡ cond (eqb field 0) (number_of f) 0 → v ≡ ktx_field file field
+  field-of-refused {f} p q = of-refused _ field p.number (number-above f) q
 
-  pub field-of-plate : (w h at size : ℕ) (two : Bool) {v : ℕ} → r ≡ Plate w h two at size → v ≡ sized_field w h (bits_of two) at size field
-      → v ≡ ktx_field file field
-  field-of-plate w h at size two e q =
-      let read : PlateRead file w h two at size = of-plate (rw e at p) in
+  pub field-of-plate : {plate : Plate} {v : ℕ} → HeaderRead file (Ok plate) → v ≡ value (of_ktx plate) field → v ≡ ktx_field file field
+  field-of-plate p q =
+      let read = of-plate p in
       let same = rw (read.width, read.height, read.depth, read.payload, read.said) at q in
       of-accepted _ field read.accepted (λ z. rw z refl) same

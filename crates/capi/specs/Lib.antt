@@ -1,3 +1,4 @@
+pub mod Fields
 pub mod Ktx
 pub mod Level
 pub mod Plate

@@ -2,25 +2,99 @@
 #![tactic(auto)]
 
 ghost use Rattle.std.specs.Prelude.{◌≡◌, cond, eqb};
-ghost use Rattle.files.specs.Fields.{bits_of};
-ghost use Rattle.pvrtc.specs.Refusals.{decoded_number};
-ghost use Rattle.capi.specs.Plate.{mode_of, order_of, plate, texel_answer, WroteRow, WrotePicture, header_field, plate_field, sized_field};
+ghost use Rattle.capi.specs.Fields.{of_pvr, of_ktx, of_level, value};
+ghost use Rattle.capi.specs.Plate.{mode_of, order_of, plate, texel_answer, WroteRow, WrotePicture, header_field};
 ghost use Rattle.capi.specs.Ktx.{ktx_field, WroteKtx};
 ghost use Rattle.capi.specs.Level.{level_field, WroteLevel};
 
-use levels::Described;
+use facts::{Numbered, number_said};
+use levels::Level;
 use pixel::ChannelOrder;
-use pvr::Header;
-use pvrtc::{Decoded, GridMode, Picture, Texel};
+use pvrtc::{GridMode, Picture};
+
+// What C can ask of a plate in a file: its sides, its depth, where its bytes start, and how many these are said to be or must be.
+#[derive(Clone, Copy, Debug, PartialEq, Eq)]
+struct Fields {
+    width: usize,
+    height: usize,
+    is2bpp: bool,
+    start: usize,
+    size: usize,
+}
+
+// A PVR file says no size.
+impl From<pvr::Plate> for Fields {
+    ghost from_gives = { λ p f. f ≡ of_pvr p };
+
+    fn from(plate: pvr::Plate) -> Fields {
+        Fields {
+            width: plate.width,
+            height: plate.height,
+            is2bpp: plate.is2bpp,
+            start: plate.payload,
+            size: 0,
+        }
+    }
+}
+
+impl From<ktx::Plate> for Fields {
+    ghost from_gives = { λ p f. f ≡ of_ktx p };
+
+    fn from(plate: ktx::Plate) -> Fields {
+        Fields {
+            width: plate.width,
+            height: plate.height,
+            is2bpp: plate.is2bpp,
+            start: plate.payload,
+            size: plate.size as usize,
+        }
+    }
+}
+
+impl From<Level> for Fields {
+    ghost from_gives = { λ level f. f ≡ of_level level };
+
+    fn from(level: Level) -> Fields {
+        Fields {
+            width: level.width,
+            height: level.height,
+            is2bpp: level.is2bpp,
+            start: level.start,
+            size: level.need,
+        }
+    }
+}
+
+impl Fields {
+    // The field of a number; 0 where there is none.
+    fn value(self, field: u32) -> u64
+        ensures { result ≡ value self field }
+    {
+        match field {
+            1 => self.width as u64,
+            2 => self.height as u64,
+            3 => if self.is2bpp { 2 } else { 4 },
+            4 => self.start as u64,
+            5 => self.size as u64,
+            _ => 0,
+        }
+    }
+}
+
+// A field where a file is refused: the refusal's number as field 0, and nothing else.
+fn refused_field<E: Numbered>(f: E, field: u32) -> u64
+    ensures { result ≡ cond (eqb field 0) (E.number f) 0 }
+{
+    if field == 0 { f.number() } else { 0 }
+}
 
 // The mode by C's number: 0 is the Rust's, any other the stored one.
 fn mode_of(mode: u32) -> GridMode
     ensures { result ≡ mode_of mode }
 {
-    if mode == 0 {
-        GridMode::Rust
-    } else {
-        GridMode::Stored
+    match mode {
+        0 => GridMode::Rust,
+        _ => GridMode::Stored,
     }
 }
 
@@ -28,10 +102,9 @@ fn mode_of(mode: u32) -> GridMode
 fn order_of(order: u32) -> ChannelOrder
     ensures { result ≡ order_of order }
 {
-    if order == 0 {
-        ChannelOrder::BlueFirst
-    } else {
-        ChannelOrder::RedFirst
+    match order {
+        0 => ChannelOrder::BlueFirst,
+        _ => ChannelOrder::RedFirst,
     }
 }
 
@@ -63,20 +136,9 @@ pub extern "C" fn plate_texel(
     ensures { result ≡ texel_answer (plate width height depth mode order) «data».now x y }
 {
     let p = picture_of(width, height, depth, mode, order);
-    let answer = pvrtc::decode_texel(data, p, x as usize, y as usize);
-    match answer {
-        Texel::Word(word) => word as u64,
-        Texel::Refused(f) => 4294967296 * pvrtc::refusal_number(f),
-    }
-}
-
-// The refusal's number of a call that writes, 0 for none.
-fn number_of(answer: Decoded) -> u64
-    ensures { result ≡ decoded_number answer }
-{
-    match answer {
-        Decoded::Done => 0,
-        Decoded::Refused(f) => pvrtc::refusal_number(f),
+    match pvrtc::decode_texel(data, p, x as usize, y as usize) {
+        Ok(word) => word as u64,
+        Err(f) => 4294967296 * f.number(),
     }
 }
 
@@ -95,7 +157,7 @@ pub extern "C" fn plate_row(
     ensures { WroteRow (plate width height depth mode order) «data».now y row.old row.new result }
 {
     let p = picture_of(width, height, depth, mode, order);
-    number_of(pvrtc::decode_row(data, p, y as usize, row))
+    number_said(pvrtc::decode_row(data, p, y as usize, row))
 }
 
 // The whole picture into lent words.
@@ -111,7 +173,8 @@ pub extern "C" fn plate_picture(
 ) -> u64
     ensures { WrotePicture (plate width height depth mode order) «data».now image.old image.new result }
 {
-    number_of(pvrtc::decode_picture(data, picture_of(width, height, depth, mode, order), image))
+    let p = picture_of(width, height, depth, mode, order);
+    number_said(pvrtc::decode_picture(data, p, image))
 }
 
 // A field of a PVR file's header.
@@ -119,15 +182,9 @@ pub extern "C" fn plate_picture(
 pub extern "C" fn plate_header(file: &[u8], field: u32) -> u64
     ensures { result ≡ header_field file.now field }
 {
-    let header = pvr::read_header(file);
-    match header {
-        Header::Refused(f) => refused_field(pvr::header_refusal_number(f), field),
-        Header::Plate {
-            width,
-            height,
-            is2bpp,
-            payload,
-        } => plate_field(width, height, is2bpp, payload, field),
+    match pvr::read_header(file) {
+        Ok(plate) => Fields::from(plate).value(field),
+        Err(f) => refused_field(f, field),
     }
 }
 
@@ -136,16 +193,9 @@ pub extern "C" fn plate_header(file: &[u8], field: u32) -> u64
 pub extern "C" fn plate_ktx(file: &[u8], field: u32) -> u64
     ensures { result ≡ ktx_field file.now field }
 {
-    let header = ktx::read_header(file);
-    match header {
-        ktx::Header::Refused(f) => refused_field(ktx::header_refusal_number(f), field),
-        ktx::Header::Plate {
-            width,
-            height,
-            is2bpp,
-            payload,
-            size,
-        } => sized_field(width, height, is2bpp, payload, size as u64, field),
+    match ktx::read_header(file) {
+        Ok(plate) => Fields::from(plate).value(field),
+        Err(f) => refused_field(f, field),
     }
 }
 
@@ -154,7 +204,7 @@ pub extern "C" fn plate_ktx(file: &[u8], field: u32) -> u64
 pub extern "C" fn plate_ktx_picture(file: &[u8], order: u32, image: &mut [u32]) -> u64
     ensures { WroteKtx (order_of order) file.now image.old image.new result }
 {
-    ktx::decoded_number(ktx::decode_ktx(file, order_of(order), image))
+    number_said(ktx::decode_ktx(file, order_of(order), image))
 }
 
 // A field of a level of a PVR or a KTX file.
@@ -162,17 +212,9 @@ pub extern "C" fn plate_ktx_picture(file: &[u8], order: u32, image: &mut [u32]) 
 pub extern "C" fn plate_level_field(file: &[u8], level: u64, field: u32) -> u64
     ensures { result ≡ level_field file.now level field }
 {
-    let described = levels::read_level(file, level as usize);
-    match described {
-        Described::Refused(f) => refused_field(levels::refusal_number(f), field),
-        Described::Level(l) => sized_field(
-            l.width,
-            l.height,
-            l.is2bpp,
-            l.start,
-            l.need as u64,
-            field,
-        ),
+    match levels::read_level(file, level as usize) {
+        Ok(level) => Fields::from(level).value(field),
+        Err(f) => refused_field(f, field),
     }
 }
 
@@ -181,43 +223,5 @@ pub extern "C" fn plate_level_field(file: &[u8], level: u64, field: u32) -> u64
 pub extern "C" fn plate_level(file: &[u8], level: u64, order: u32, image: &mut [u32]) -> u64
     ensures { WroteLevel (order_of order) file.now level image.old image.new result }
 {
-    levels::decoded_number(levels::decode_level(file, level as usize, order_of(order), image))
-}
-
-// A field of a refused header.
-fn refused_field(number: u64, field: u32) -> u64
-    ensures { result ≡ cond (eqb field 0) number 0 }
-{
-    if field == 0 { number } else { 0 }
-}
-
-// A field of an accepted header.
-fn plate_field(width: usize, height: usize, is2bpp: bool, payload: usize, field: u32) -> u64
-    ensures { result ≡ plate_field width height (bits_of is2bpp) payload field }
-{
-    match field {
-        1 => width as u64,
-        2 => height as u64,
-        3 => if is2bpp { 2 } else { 4 },
-        4 => payload as u64,
-        _ => 0,
-    }
-}
-
-// The same, where there is a size too.
-fn sized_field(
-    width: usize,
-    height: usize,
-    is2bpp: bool,
-    payload: usize,
-    size: u64,
-    field: u32,
-) -> u64
-    ensures { result ≡ sized_field width height (bits_of is2bpp) payload size field }
-{
-    if field == 5 {
-        size
-    } else {
-        plate_field(width, height, is2bpp, payload, field)
-    }
+    number_said(levels::decode_level(file, level as usize, order_of(order), image))
 }

@@ -1,11 +1,5 @@
 -- What the program's limits say, and what is known of a plate that keeps them. Assumes nothing.
-use mathlib.Core.Path.{◌≡◌, ap, ◌∙◌}
-use mathlib.Core.Bool.{Bool, true, false, cond}
-use Prim.Native.Nat.{ℕ, ◌*◌, ◌≤◌}
-use native.Mathlib.Nat.{mul-le-mul, mul-le-mul_left}
-use native.Mathlib.Omega.{arith}
-use lib.Dec.{eqb, ltb}
-use borrow.Author.Tests.{ltb-false, le-ltb}
+use Rattle.std.proofs.Common.{◌≡◌, ℕ, ◌*◌, ◌≤◌, Bool, true, false, cond, eqb, ltb, ap, ◌∙◌, mul-le-mul, mul-le-mul_left, arith, ltb-false, le-ltb}
 use Rattle.facts.specs.Checks.{first_of, condition}
 use Rattle.facts.proofs.Checks.{none_said, first-append}
 use Rattle.facts.proofs.Or.{or_left, or_right}
@@ -19,10 +13,6 @@ use Rattle.pvrtc.specs.Refusals.{need, zero_side, large_side, short_image, outsi
 use Rattle.convert.specs.Inner.{TgaFits}
 use Rattle.files.specs.declared.Stored.{Stored}
 use Rattle.convert.specs.Output.{picture_of, need_limit, long_skipped, long_side, large_need, other_size, limit_checks, payload_checks, own_checks, Room}
-
--- a number that is not above 0 is 0
-pub says_none : {n m : ℕ} → n ≡ m → n ≤ 0 → m ≡ 0
-says_none e h = omega arith
 
 -- nothing is refused before the data
 pub record Kept (s : Stored) : Type 0 where

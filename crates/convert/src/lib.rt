@@ -1,27 +1,49 @@
 // What the program `plate` writes for a file: a picture as a TGA, or the line of a refusal.
 #![tactic(auto)]
 
+mod reasons;
+
 ghost use Rattle.std.specs.Prelude.{◌≡◌, ◌+◌, ◌*◌, ◌/◌, ◌%◌, ◌<◌, ◌≤◌, length, get_or};
-ghost use Rattle.facts.specs.Checks.{first_of};
-ghost use Rattle.paint.specs.Paint.{painted};
+ghost use Rattle.facts.specs.Checks.{Says};
+ghost use Rattle.facts.specs.Tab.{tab};
 ghost use Rattle.files.specs.Fields.{byte_of};
-ghost use Rattle.files.specs.Reading.{reading_of};
+ghost use Rattle.files.specs.Reading.{Shown};
 ghost use Rattle.convert.specs.Output.{says_of, picture_of, long_side, limit_checks, refused_line, tga_header, tga_of, laid};
 ghost use Rattle.convert.specs.Output.{Room, Converted, ConvertedInRoom};
-ghost use Rattle.convert.specs.Inner.{PlateConverted, Laid, TgaFits};
+ghost use Rattle.convert.specs.Inner.{number_of, FileDecoded, Laid, TgaFits};
 
-use files::{Reading, Stored};
+use facts::{Numbered, refuse_if};
+use files::Stored;
 use pixel::ChannelOrder;
-use pvrtc::{Decoded, GridMode, Picture};
+use pvrtc::{GridMode, Picture};
+
+// Room for the largest picture that the limits let through: its words, and the bytes of its TGA.
+pub const IMAGE_WORDS: usize = 131072;
+
+pub const OUT_BYTES: usize = 18 + 4 * IMAGE_WORDS;
+
+// Why no picture is written: the header's refusal, more skipped than the program takes, a side or a need above its limits, a size said that is not the
+// need, or the block call's refusal.
+#[derive(Clone, Copy)]
+enum Refusal {
+    Pvr(pvr::HeaderRefusal),
+    Ktx(ktx::HeaderRefusal),
+    LongSkipped,
+    LongSide,
+    LargeNeed,
+    OtherSize,
+    Picture(pvrtc::Refusal),
+}
 
 // What a file says, by the reader that its first bytes choose.
-fn read_file(file: &[u8]) -> Reading
-    ensures { result ≡ reading_of (says_of file.now) }
+fn read_file(file: &[u8]) -> Result<Stored, Refusal>
+    ensures { Shown number_of (says_of file.now) result }
 {
     if ktx::is_ktx(file) {
-        return ktx::read_plate(file);
+        Ok(ktx::read_plate(file)?)
+    } else {
+        Ok(pvr::read_plate(file)?)
     }
-    pvr::read_plate(file)
 }
 
 // The picture of a stored plate, with the grid that files store. A TGA has blue first.
@@ -43,32 +65,33 @@ fn has_long_side(p: Picture) -> bool
     p.width > 1024 || p.height > 1024
 }
 
-// The number of the first refusal of a stored plate that its data has no part in: 0 for none.
-fn limit_refusal(s: Stored) -> u64
-    ensures { (result ≡ first_of (limit_checks s)) × (result ≤ 37) }
+// The first refusal of a stored plate that its data has no part in.
+fn check_limits(s: Stored) -> Result<(), Refusal>
+    ensures { Says number_of result (limit_checks s) }
 {
-    if s.skipped > 4096 {
-        return 21;
-    }
-    if s.cut {
-        return 37;
-    }
+    refuse_if(s.skipped > 4096, Refusal::LongSkipped)?;
+    refuse_if(s.cut, Refusal::Ktx(ktx::HeaderRefusal::CutShort))?;
     let p = picture_of(s);
-    if pvrtc::has_zero_side(p) {
-        return 1;
-    }
-    if has_long_side(p) {
-        return 22;
-    }
+    refuse_if(
+        pvrtc::has_zero_side(p),
+        Refusal::Picture(pvrtc::Refusal::ZeroSide),
+    )?;
+    refuse_if(has_long_side(p), Refusal::LongSide)?;
     let need = grid::need_of(pvrtc::grid_of(p));
-    if need > 32768 {
-        return 23;
-    }
-    let said = s.size;
-    if !files::fits_size(said, need) {
-        return 36;
-    }
-    0
+    refuse_if(need > 32768, Refusal::LargeNeed)?;
+    refuse_if(!files::fits_size(s.size, need), Refusal::OtherSize)
+}
+
+// Decodes the picture that a file stores into `image`, or answers the first refusal whose condition holds.
+fn decode_file(file: &[u8], image: &mut [u32]) -> Result<Stored, Refusal>
+    requires { 131072 ≤ length image.old }
+    ensures { FileDecoded file.now image.old image.new result }
+{
+    let s = read_file(file)?;
+    check_limits(s)?;
+    let data = file.get(s.payload..).unwrap_or(&[]);
+    pvrtc::decode_picture(data, picture_of(s), image)?;
+    Ok(s)
 }
 
 // Lays bytes in front of out.
@@ -76,9 +99,7 @@ fn put(bytes: &[u8], out: &mut [u8])
     requires { length bytes.now ≤ length out.old }
     ensures { out.new ≡ laid bytes.now out.old }
 {
-    for i in 0..bytes.len() {
-        out[i] = bytes[i];
-    }
+    out[..bytes.len()].copy_from_slice(bytes);
 }
 
 // Lays the line of refusal n, and says how long it is.
@@ -106,23 +127,22 @@ fn put_tga_header(w: usize, h: usize, out: &mut [u8])
     requires { (w ≤ 1024) × (h ≤ 1024) × (18 ≤ length out.old) }
     ensures { out.new ≡ laid (tga_header w h) out.old }
 {
-    let w0 = (w % 256) as u8;
-    let w1 = (w / 256 % 256) as u8;
-    let h0 = (h % 256) as u8;
-    let h1 = (h / 256 % 256) as u8;
+    let [w0, w1] = (w as u16).to_le_bytes();
+    let [h0, h1] = (h as u16).to_le_bytes();
     let header = [
         0, 0, 2, 0, 0, 0, 0, 0, 0, 0, 0, 0, w0, w1, h0, h1, 0x20, 0x28,
     ];
     put(&header, out);
 }
 
-// Lays the bytes of the first n words behind the header, each word little-endian.
-fn put_words(words: &[u32], n: usize, out: &mut [u8])
-    requires { (n ≤ length words.now) × (n ≤ 131072) × (18 + 4 * n ≤ length out.old) }
-    ensures { out.new ≡ painted 18 (4 * n) (4 * n) 1 (λ i _. byte_of (get_or words.now (i / 4) 0) (i % 4)) out.old }
+// Writes the bytes of the words, each word little-endian.
+fn put_words(words: &[u32], out: &mut [u8])
+    requires { length out.old ≡ 4 * length words.now }
+    ensures { out.new ≡ tab (λ i. byte_of (get_or words.now (i / 4) 0) (i % 4)) (4 * length words.now) }
 {
-    for i in 0..4 * n {
-        out[18 + i] = files::byte_of(words[i / 4], i % 4);
+    // not by `chunks_exact_mut`: of the bytes that it lends, the library says nothing afterwards
+    for (i, byte) in out.iter_mut().enumerate() {
+        *byte = files::byte_of(words[i / 4], i % 4);
     }
 }
 
@@ -131,25 +151,11 @@ fn put_tga(w: usize, h: usize, words: &[u32], out: &mut [u8]) -> usize
     requires { TgaFits w h (length words.now) (length out.old) }
     ensures { Laid (tga_of w h (λ k. get_or words.now k 0)) out.old out.new result }
 {
+    let n = w * h;
+    let size = 18 + 4 * n;
     put_tga_header(w, h, out);
-    put_words(words, w * h, out);
-    18 + 4 * (w * h)
-}
-
-// What is written for a plate whose header is accepted: the picture, or the line of the first refusal.
-fn convert_plate(data: &[u8], s: Stored, image: &mut [u32], out: &mut [u8]) -> usize
-    requires { Room (length image.old) (length out.old) }
-    ensures { PlateConverted s «data».now image.old image.new out.old out.new result }
-{
-    let limit = limit_refusal(s);
-    if limit > 0 {
-        return put_refused(limit, out);
-    }
-    let decoded = pvrtc::decode_picture(data, picture_of(s), image);
-    match decoded {
-        Decoded::Done => put_tga(s.width, s.height, image, out),
-        Decoded::Refused(f) => put_refused(pvrtc::refusal_number(f), out),
-    }
+    put_words(&words[..n], &mut out[18..size]);
+    size
 }
 
 // Lays what is to be written for a file in front of `out`, and says how many bytes that is. The picture's words are decoded into `image`.
@@ -157,13 +163,9 @@ pub fn convert(file: &[u8], image: &mut [u32], out: &mut [u8]) -> usize
     requires { Room (length image.old) (length out.old) }
     ensures { Converted file.now image.old image.new out.old out.new result }
 {
-    let reading = read_file(file);
-    match reading {
-        Reading::Plate(s) => {
-            let start = facts::least(s.payload, file.len());
-            convert_plate(&file[start..], s, image, out)
-        }
-        Reading::Refused(n) => put_refused(n, out),
+    match decode_file(file, image) {
+        Ok(s) => put_tga(s.width, s.height, image, out),
+        Err(f) => put_refused(f.number(), out),
     }
 }
 
@@ -172,10 +174,7 @@ pub fn convert(file: &[u8], image: &mut [u32], out: &mut [u8]) -> usize
 pub extern "C" fn plate_convert(file: &[u8], image: &mut [u32], out: &mut [u8]) -> usize
     ensures { ConvertedInRoom file.now image.old image.new out.old out.new result }
 {
-    if image.len() < 131072 {
-        return 0;
-    }
-    if out.len() < 524306 {
+    if image.len() < IMAGE_WORDS || out.len() < OUT_BYTES {
         return 0;
     }
     convert(file, image, out)

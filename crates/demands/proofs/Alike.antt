@@ -1,14 +1,7 @@
 -- Two files that are alike in what a level is read from have the same level. Assumes nothing.
-use mathlib.Core.Path.{◌≡◌, refl, sym, ap, ap₂, ◌∙◌}
-use mathlib.Core.Bool.{Bool, true, false, cond, ◌&&◌}
-use mathlib.Core.List.{List, [], ◌∷◌, ◌++◌}
-use mathlib.Core.Logic.{⊎_elim}
-use Prim.Native.Nat.{ℕ, ◌+◌, ◌-◌, ◌≤◌, ◌<◌}
-use native.Mathlib.Omega.{arith}
-use lib.Dec.{eqb, ltb, leb}
-use lib.ListN.{length, get_or, drop, length-drop}
-use lib.Seq.{get_or-drop}
-use borrow.Author.Tests.{lt-leb, le-leb, lt-ltb, le-ltb, ltb-false}
+use Rattle.std.proofs.Common.{◌≡◌, ℕ, ◌+◌, ◌-◌, ◌<◌, ◌≤◌, Bool, true, false, cond, ◌&&◌, eqb, ltb, leb, List, [], ◌∷◌, ◌++◌, length, get_or, drop, sym, refl}
+use Rattle.std.proofs.Common.{ap, ◌∙◌, ap₂, ⊎_elim, arith, length-drop, get_or-drop, ltb-false, le-ltb, lt-ltb, le-leb}
+use borrow.Author.Tests.{lt-leb}
 use Rattle.facts.specs.Checks.{Check, check, first_of}
 use Rattle.facts.proofs.Checks.{first-append}
 use Rattle.facts.proofs.Lists.{choice}

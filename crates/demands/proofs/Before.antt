@@ -1,16 +1,11 @@
 -- What a file's header is refused by decides what is said of the file, and a header's number all that is answered. Assumes nothing.
-use mathlib.Core.Path.{◌≡◌, refl, sym, ap, subst, ◌∙◌}
-use mathlib.Core.Bool.{Bool, true, false, cond, false≢true}
-use mathlib.Core.List.{List, ◌++◌}
-use mathlib.Core.Logic.{◌↔◌}
-use Prim.Native.Nat.{ℕ}
-use lib.Dec.{T, eqb}
-use lib.ListN.{length}
+use Rattle.std.proofs.Common.{◌≡◌, ℕ, Bool, true, false, cond, T, eqb, ◌↔◌, List, ◌++◌, length, sym, refl, ap, ◌∙◌, subst}
+use mathlib.Core.Bool.{false≢true}
 use Rattle.facts.specs.Checks.{Check, first_of, numbered}
 use Rattle.facts.proofs.Checks.{first-append, numbered-append}
 use Rattle.facts.proofs.Lists.{choice}
 use Rattle.pvr.specs.Header.{header_checks, HeaderAnswered}
-use Rattle.pvr.specs.Reading.{pvr_plate, pvr_says}
+use Rattle.pvr.specs.Reading.{pvr_says}
 use Rattle.ktx.specs.Header.{is_ktx}
 use Rattle.ktx.specs.Reading.{ktx_says}
 use Rattle.levels.specs.Calls.{Answered as AnsweredLevel}

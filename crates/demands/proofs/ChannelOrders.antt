@@ -1,14 +1,8 @@
 -- The order of channels over every call: blue first all answers are what they were, red first each word has two bytes exchanged.
 -- Assumes nothing.
-use mathlib.Core.Path.{◌≡◌, refl, sym, ap, ap₂, ◌∙◌}
-use mathlib.Core.Bool.{Bool, true, false, cond}
-use mathlib.Core.List.{List, ◌++◌}
-use Prim.Native.Nat.{ℕ, ◌/◌, ◌%◌, ◌<◌}
-use native.Mathlib.Omega.{arith}
-use lib.Dec.{eqb}
-use lib.ListN.{length, get_or, drop}
-use lib.Seq.{drop_at}
-use borrow.Author.Tests.{eqb-true, eqb-false, ne_eqb}
+use Rattle.std.proofs.Common.{◌≡◌, ℕ, ◌/◌, ◌%◌, ◌<◌, Bool, true, false, cond, eqb, List, ◌++◌, length, get_or, drop, sym, refl, ap, ◌∙◌, ap₂, arith, drop_at}
+use Rattle.std.proofs.Common.{ne_eqb, eqb-true}
+use borrow.Author.Tests.{eqb-false}
 use Rattle.facts.specs.Checks.{Check}
 use Rattle.facts.specs.Tab.{tab}
 use Rattle.facts.proofs.Tab.{length-tab, tab-front, tab-same}

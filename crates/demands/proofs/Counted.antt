@@ -1,14 +1,9 @@
 -- How many texels damage in a block touches: those whose footprint has it, which are the rectangle about it. Assumes nothing.
-use mathlib.Core.Path.{◌≡◌, refl, sym, ap, ap₂, ◌∙◌}
-use mathlib.Core.Bool.{Bool, true, false, ◌||◌, false≢true}
+use Rattle.std.proofs.Common.{◌≡◌, ℕ, zero, suc, ◌+◌, ◌*◌, ◌/◌, ◌%◌, ◌<◌, ◌≤◌, Bool, true, false, ◌||◌, eqb, List, [], ◌∷◌, sym, refl, ap, ◌∙◌, ap₂, ⊎_elim}
+use Rattle.std.proofs.Common.{mul-le-mul_right, mod-lt, div-lt_iff_lt-mul, div-add-mod', arith, eq-eqb, eqb-true}
+use mathlib.Core.Bool.{false≢true}
 use mathlib.Core.List.Memᴰ
-use mathlib.Core.List.{List, [], ◌∷◌, Memᴰ}
-use mathlib.Core.Logic.{⊎_elim}
-use Prim.Native.Nat.{ℕ, zero, suc, ◌+◌, ◌*◌, ◌/◌, ◌%◌, ◌≤◌, ◌<◌}
-use native.Mathlib.Nat.{mod-lt, div-add-mod', div-lt_iff_lt-mul, mul-le-mul_right}
-use native.Mathlib.Omega.{arith}
-use lib.Dec.{eqb}
-use borrow.Author.Tests.{eqb-true, eq-eqb}
+use mathlib.Core.List.{Memᴰ}
 use Rattle.facts.specs.Count.{count}
 use Rattle.facts.proofs.Count.{count-at-most, count-at-least}
 use Rattle.facts.proofs.Lists.{Value, tab-in, tab_out}

@@ -1,12 +1,8 @@
 -- The rectangle about a block: it holds the texels whose footprint has the block and no others, and where the grid has two blocks
 -- each way, none of them twice. Assumes nothing.
-use mathlib.Core.Path.{◌≡◌, refl, sym, ap, ap₂, ◌∙◌}
-use mathlib.Core.Bool.{Bool, true, false, cond}
+use Rattle.std.proofs.Common.{◌≡◌, ℕ, ◌+◌, ◌*◌, ◌/◌, ◌%◌, ◌<◌, ◌≤◌, Bool, true, false, cond, length, sym, refl, ap, ◌∙◌, ap₂, mul-le-mul_right, mod-lt}
+use Rattle.std.proofs.Common.{div-lt_iff_lt-mul, div-add-mod', arith}
 use mathlib.Core.List.{Memᴰ}
-use Prim.Native.Nat.{ℕ, ◌+◌, ◌*◌, ◌/◌, ◌%◌, ◌≤◌, ◌<◌}
-use native.Mathlib.Nat.{mod-lt, div-add-mod', div-lt_iff_lt-mul, mul-le-mul_right}
-use native.Mathlib.Omega.{arith}
-use lib.ListN.{length}
 use Rattle.facts.specs.Tab.{tab}
 use Rattle.facts.proofs.Lists.{tab-in, tab_out}
 use Rattle.facts.proofs.Numbers.{split}

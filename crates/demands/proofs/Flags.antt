@@ -1,16 +1,10 @@
 -- A file with unknown flags is stopped, and nothing else is read otherwise than before. Assumes nothing.
-use mathlib.Core.Path.{sym, subst}
-use mathlib.Core.Bool.{Bool, true, false, cond, not, ◌&&◌}
-use mathlib.Core.List.{List}
-use Prim.Native.Nat.{ℕ}
-use lib.Dec.{T}
-use lib.ListN.{length}
+use Rattle.std.proofs.Common.{ℕ, Bool, true, false, cond, not, ◌&&◌, T, List, length, sym, subst}
 use Rattle.facts.specs.Checks.{Check, first_of}
 use Rattle.facts.proofs.Lists.{choice}
 use Rattle.files.proofs.Answers.{of_number, numbers_pass}
 use Rattle.pvr.specs.AnyFlags.{any_flags_checks, any_flags_refusal, passes, StopsFlags}
 use Rattle.pvr.specs.Header.{unknown_flags, header_checks}
-use Rattle.pvr.specs.Reading.{pvr_says}
 use Rattle.pvr.proofs.AnyFlags.{passing, known_same, flags-stop, not_stopped, accepted, or_else}
 use Rattle.pvr.proofs.OneNumber.{header-which, none-same}
 use Rattle.ktx.specs.Header.{is_ktx}

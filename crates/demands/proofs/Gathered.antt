@@ -1,14 +1,9 @@
 -- What is gathered into an ascending list: each of its numbers, once. Assumes nothing.
-use mathlib.Core.Path.{◌≡◌, ap, subst, ◌∙◌}
+use Rattle.std.proofs.Common.{◌≡◌, ℕ, zero, suc, ◌+◌, ◌<◌, ◌≤◌, eqb, ltb, ◌⊎◌, List, [], ◌∷◌, length, ap, ◌∙◌, subst, inl, inr, ⊎_elim, le_of_suc-le-suc}
+use Rattle.std.proofs.Common.{not-suc-le-zero, eq-or-lt_of_le, arith, ltb-false, ltb-true, lt-ltb, eqb-true}
 use mathlib.Core.List.Memᴰ
-use mathlib.Core.List.{List, [], ◌∷◌, Memᴰ}
-use mathlib.Core.Logic.{◌⊎◌, inl, inr, ⊎_elim}
-use Prim.Native.Nat.{ℕ, zero, suc, ◌+◌, ◌≤◌, ◌<◌}
-use native.Mathlib.Nat.{not-suc-le-zero, le_of_suc-le-suc, eq-or-lt_of_le}
-use native.Mathlib.Omega.{arith}
-use lib.Dec.{ltb, eqb}
-use lib.ListN.{length}
-use borrow.Author.Tests.{ltb-true, ltb-false, lt-ltb, eqb-true, eqb-false}
+use mathlib.Core.List.{Memᴰ}
+use borrow.Author.Tests.{eqb-false}
 use Rattle.facts.specs.Sum.{sum}
 use Rattle.facts.proofs.Lists.{choice}
 use Rattle.demands.specs.Footprint.{insert, gathered, Rising}

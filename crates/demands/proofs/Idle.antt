@@ -1,11 +1,6 @@
 -- Demand 1, against idle versions: the texels that each would get wrong are computed. Assumes nothing.
-use Rattle.std.proofs.Common.{Ok}
-use mathlib.Core.Path.{◌≡◌, refl, ap, ◌∙◌}
-use mathlib.Core.Bool.{Bool, true, false}
-use mathlib.Core.List.{List}
-use Prim.Native.Nat.{ℕ, ◌+◌, ◌*◌, ◌%◌, ◌≤◌, ◌<◌}
-use native.Mathlib.Omega.{arith}
-use lib.ListN.{get_or, length, get_or-replicate}
+use Rattle.std.proofs.Common.{◌≡◌, ℕ, ◌+◌, ◌*◌, ◌%◌, ◌<◌, ◌≤◌, Bool, true, false, List, length, get_or, Ok, refl, ap, ◌∙◌, arith}
+use lib.ListN.{get_or-replicate}
 use Rattle.facts.specs.Bits.{flags}
 use Rattle.facts.specs.Checks.{first_of}
 use Rattle.facts.specs.Sum.{sum}

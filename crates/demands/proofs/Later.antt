@@ -1,15 +1,7 @@
 -- What follows level 0 of a KTX file has no effect on its picture, nor on what C is told of it. Assumes nothing.
-use Rattle.std.proofs.Common.{Result}
-use mathlib.Core.Path.{◌≡◌, refl, sym, ap, ap₂, ◌∙◌}
-use mathlib.Core.Bool.{false, cond}
-use mathlib.Core.List.{List, ◌++◌}
-use mathlib.Core.Logic.{◌↔◌}
-use Prim.Native.Nat.{ℕ, ◌+◌, ◌≤◌}
-use native.Mathlib.Omega.{arith}
-use lib.Dec.{eqb}
-use lib.ListN.{length, drop, length-append, length-drop}
+use Rattle.std.proofs.Common.{◌≡◌, ℕ, ◌+◌, ◌≤◌, false, cond, eqb, ◌↔◌, List, ◌++◌, length, drop, Result, sym, refl, ap, ◌∙◌, ap₂, arith, length-append}
+use Rattle.std.proofs.Common.{length-drop, le-ltb}
 use lib.Seq.{drop-append-le}
-use borrow.Author.Tests.{le-ltb}
 use Rattle.facts.specs.Checks.{first_of}
 use Rattle.facts.proofs.Checks.{first-append}
 use Rattle.paint.specs.Sheet.{on_sheet}
@@ -82,7 +74,8 @@ module _ (file more : List ℕ) (enough : payload_offset file + need (plate_of f
       (λ none. painted_same 0 w w p.height _ _ old (omega arith) (λ x y _ _. texel order (length old) none x y))
       ∙ sym (words-alike old (number (length old)) (ap (in_order order) (same-picture header)) data-more)
 
-  pub picture-unread : (order : ChannelOrder) (old new : List ℕ) (r : Result (Unit {0}) KtxRefusal) → KtxDecoded order file old new r ↔ KtxDecoded order (file ++ more) old new r
+  pub picture-unread : (order : ChannelOrder) (old new : List ℕ) (r : Result (Unit {0}) KtxRefusal) → KtxDecoded order file old new r
+      ↔ KtxDecoded order (file ++ more) old new r
   picture-unread order old new r =
       let n = number (length old) in (
         λ a. record { number = a.number ∙ sym n; words = a.words ∙ words order old },

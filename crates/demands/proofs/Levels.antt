@@ -1,14 +1,9 @@
 -- The levels of a file beside one another, and level 0 beside the plate. Assumes nothing.
-use Rattle.std.proofs.Common.{Ok}
-use mathlib.Core.Path.{◌≡◌, refl, sym, ap, subst, ◌∙◌}
-use mathlib.Core.Bool.{Bool, true, false, cond, not, ◌&&◌, false≢true}
-use mathlib.Core.List.{List, [], ◌∷◌, ◌++◌}
-use mathlib.Core.Logic.{◌↔◌, ⊎_elim}
-use Prim.Native.Nat.{ℕ, ◌+◌, ◌≤◌, ◌<◌}
-use native.Mathlib.Omega.{arith}
-use lib.Dec.{T, eqb, ltb}
-use lib.ListN.{length, get_or, drop, length-append, get_or-append}
-use borrow.Author.Tests.{eq-eqb, ne_eqb, eqb-true, lt-ltb, le-ltb, ltb-true, lt-leb, le-leb, not-false}
+use Rattle.std.proofs.Common.{◌≡◌, ℕ, ◌+◌, ◌<◌, ◌≤◌, Bool, true, false, cond, not, ◌&&◌, T, eqb, ltb, ◌↔◌, List, [], ◌∷◌, ◌++◌, length, get_or, drop, Ok, sym}
+use Rattle.std.proofs.Common.{refl, ap, ◌∙◌, subst, ⊎_elim, arith, length-append, ltb-true, le-ltb, lt-ltb, eq-eqb, ne_eqb, eqb-true, le-leb}
+use mathlib.Core.Bool.{false≢true}
+use lib.ListN.{get_or-append}
+use borrow.Author.Tests.{lt-leb, not-false}
 use Rattle.facts.specs.Checks.{Check, check, first_of, numbered}
 use Rattle.facts.proofs.Checks.{none_said, first-append, said-later}
 use Rattle.facts.proofs.Lists.{choice}

@@ -1,12 +1,7 @@
 -- Demand 3 holds of every grid that covers a picture. Assumes nothing.
-use mathlib.Core.Path.{sym}
-use mathlib.Core.Bool.{Bool}
+use Rattle.std.proofs.Common.{ℕ, ◌*◌, ◌<◌, ◌≤◌, Bool, sym, ⊎_elim, mul-le-mul_right, arith}
 use mathlib.Core.List.Memᴰ
 use mathlib.Core.List.{Memᴰ}
-use mathlib.Core.Logic.{⊎_elim}
-use Prim.Native.Nat.{ℕ, ◌*◌, ◌≤◌, ◌<◌}
-use native.Mathlib.Nat.{mul-le-mul_right}
-use native.Mathlib.Omega.{arith}
 use Rattle.facts.proofs.Lists.{in-or-not}
 use Rattle.grid.specs.Grid.{block_width, blocks, Power}
 use Rattle.grid.proofs.Counts.{blocks-cover}

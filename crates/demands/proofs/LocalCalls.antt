@@ -1,15 +1,9 @@
 -- Demand 3 over every call: for each picture whose sizes are accepted. Assumes nothing.
-use Rattle.std.proofs.Common.{Ok}
-use mathlib.Core.Path.{◌≡◌, refl, sym, ap, ap₂, ◌∙◌}
-use mathlib.Core.Bool.{Bool, true, false, not, false≢true}
+use Rattle.std.proofs.Common.{◌≡◌, ℕ, ◌*◌, ◌/◌, ◌%◌, ◌<◌, ◌≤◌, Bool, true, false, not, eqb, List, length, get_or, Ok, sym, refl, ap, ◌∙◌, ap₂, mod-lt, arith}
+use Rattle.std.proofs.Common.{le-ltb, eq-eqb, ne_eqb}
+use mathlib.Core.Bool.{false≢true}
 use mathlib.Core.List.Memᴰ
-use mathlib.Core.List.{List, Memᴰ}
-use Prim.Native.Nat.{ℕ, ◌*◌, ◌/◌, ◌%◌, ◌≤◌, ◌<◌}
-use native.Mathlib.Nat.{mod-lt}
-use native.Mathlib.Omega.{arith}
-use lib.Dec.{eqb}
-use lib.ListN.{length, get_or}
-use borrow.Author.Tests.{le-ltb, eq-eqb, ne_eqb}
+use mathlib.Core.List.{Memᴰ}
 use Rattle.facts.specs.Count.{count}
 use Rattle.facts.proofs.Count.{count_same, count-le}
 use Rattle.grid.specs.Grid.{half, block_width}

@@ -1,13 +1,7 @@
 -- What is in a footprint: the blocks of the nine that have a share at the texel, across and down. Assumes nothing.
-use mathlib.Core.Path.{◌≡◌, refl, ap}
-use mathlib.Core.Bool.{Bool}
-use mathlib.Core.List.{List, Memᴰ}
-use mathlib.Core.Logic.{⊎_elim}
-use Prim.Native.Nat.{ℕ, zero, suc, ◌+◌, ◌-◌, ◌*◌, ◌/◌, ◌%◌, ◌≤◌, ◌<◌, min}
-use native.Mathlib.Nat.{mod-lt, mul-pos, mul-le-mul}
-use native.Mathlib.Omega.{arith}
-use lib.ListN.{length}
-use lib.Seq.{get_or-drop}
+use Rattle.std.proofs.Common.{◌≡◌, ℕ, zero, suc, ◌+◌, ◌-◌, ◌*◌, ◌/◌, ◌%◌, ◌<◌, ◌≤◌, min, Bool, List, length, refl, ap, ⊎_elim, mod-lt, mul-le-mul, mul-pos}
+use Rattle.std.proofs.Common.{arith, get_or-drop}
+use mathlib.Core.List.{Memᴰ}
 use Rattle.facts.specs.Sum.{sum}
 use Rattle.facts.proofs.Lists.{not-empty}
 use Rattle.facts.proofs.Numbers.{lt-or-le}

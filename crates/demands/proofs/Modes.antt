@@ -1,13 +1,6 @@
 -- Where both grids are equal the modes agree, call by call; and the red corner tells them apart. Assumes nothing.
-use Rattle.std.proofs.Common.{Ok}
-use mathlib.Core.Path.{◌≡◌, refl, sym, ap, ap₂, ◌∙◌}
-use mathlib.Core.Bool.{cond}
-use mathlib.Core.List.{List, [], ◌∷◌}
-use mathlib.Core.Logic.{◌↔◌}
-use Prim.Native.Nat.{ℕ, zero, suc, ◌+◌, ◌-◌, ◌*◌, ◌/◌, ◌%◌, ◌≤◌, ◌<◌, max}
-use native.Mathlib.Omega.{arith}
-use lib.Dec.{eqb}
-use lib.ListN.{length}
+use Rattle.std.proofs.Common.{◌≡◌, ℕ, zero, suc, ◌+◌, ◌-◌, ◌*◌, ◌/◌, ◌%◌, ◌<◌, ◌≤◌, max, cond, eqb, ◌↔◌, List, [], ◌∷◌, length, Ok, sym, refl, ap, ◌∙◌, ap₂}
+use Rattle.std.proofs.Common.{arith}
 use Rattle.facts.specs.Bits.{flags}
 use Rattle.facts.specs.Checks.{first_of}
 use Rattle.facts.specs.Sum.{sum}

@@ -1,11 +1,6 @@
 -- A call depends on the bytes that its picture needs, and on no later ones: two runs that agree in them have the same outcomes. Assumes nothing.
-use Rattle.std.proofs.Common.{Result}
-use mathlib.Core.Path.{◌≡◌, refl, sym, ap, subst, ◌∙◌}
-use mathlib.Core.List.{List, ◌++◌}
-use Prim.Native.Nat.{ℕ, ◌≤◌, ◌<◌}
-use native.Mathlib.Omega.{arith}
-use lib.ListN.{length, get_or, take, drop, take-append-drop}
-use lib.Seq.{ext_get_or, get_or-take, length-take-le}
+use Rattle.std.proofs.Common.{◌≡◌, ℕ, ◌<◌, ◌≤◌, List, ◌++◌, length, get_or, take, drop, Result, sym, refl, ap, ◌∙◌, subst, arith, take-append-drop}
+use Rattle.std.proofs.Common.{length-take-le, get_or-take, ext_get_or}
 use Rattle.pvrtc.specs.Calls.{refusal, BlockDecoded}
 use Rattle.pvrtc.specs.Picture.{picture_texel}
 use Rattle.pvrtc.specs.Refusals.{need}

@@ -1,12 +1,6 @@
 -- Fields of a header that are ignored have no effect on anything that reads a file, nor has what follows level 0. Assumes nothing.
-use mathlib.Core.Path.{◌≡◌, refl, sym, ap, ap₂, ◌∙◌}
-use mathlib.Core.Bool.{true, false, cond}
-use mathlib.Core.List.{List}
-use Prim.Native.Nat.{ℕ, ◌≤◌, ◌<◌}
-use native.Mathlib.Omega.{arith}
-use lib.Dec.{eqb, leb, ltb}
-use lib.ListN.{length, drop}
-use borrow.Author.Tests.{le-ltb, le-leb, lt-leb}
+use Rattle.std.proofs.Common.{◌≡◌, ℕ, ◌<◌, ◌≤◌, true, false, cond, eqb, ltb, leb, List, length, drop, sym, refl, ap, ◌∙◌, ap₂, arith, le-ltb, le-leb}
+use borrow.Author.Tests.{lt-leb}
 use Rattle.files.specs.Fields.{bits_of}
 use Rattle.files.specs.Reading.{Says}
 use Rattle.files.specs.declared.Stored.{Stored}

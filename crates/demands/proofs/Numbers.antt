@@ -1,5 +1,5 @@
 -- Every number that document 01 marks P is the computed one. Assumes nothing.
-use lib.Dec.{T}
+use Rattle.std.proofs.Common.{T}
 use Rattle.facts.specs.Finite.{every}
 use Rattle.facts.specs.Sum.{sum}
 use Rattle.facts.specs.Tab.{tab}

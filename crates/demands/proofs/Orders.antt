@@ -1,8 +1,5 @@
 -- The orders in which a file is refused are those of documents 01 and 02. Assumes nothing.
-use mathlib.Core.Path.{◌≡◌, refl, sym, ap, ◌∙◌}
-use mathlib.Core.List.{List, [], ◌∷◌, ◌++◌}
-use Prim.Native.Nat.{ℕ}
-use lib.ListN.{length, drop}
+use Rattle.std.proofs.Common.{◌≡◌, ℕ, List, [], ◌∷◌, ◌++◌, length, drop, sym, refl, ap, ◌∙◌}
 use Rattle.facts.specs.Checks.{Check, check, first_of}
 use Rattle.files.specs.Reading.{Says}
 use Rattle.pvr.specs.Header as pvr

@@ -1,14 +1,5 @@
 -- Data past the need has no effect on an outcome, and what C calls has the calls' outcomes. Assumes nothing.
-use Rattle.std.proofs.Common.{Result}
-use mathlib.Core.Path.{◌≡◌, refl, sym, ap, ◌∙◌}
-use mathlib.Core.Bool.{Bool, true, false, cond}
-use mathlib.Core.List.{List, ◌++◌}
-use mathlib.Core.Logic.{◌↔◌}
-use Prim.Native.Nat.{ℕ, ◌≤◌}
-use native.Mathlib.Omega.{arith}
-use lib.Dec.{eqb}
-use lib.ListN.{length}
-use borrow.Author.Tests.{eqb-true}
+use Rattle.std.proofs.Common.{◌≡◌, ℕ, ◌≤◌, Bool, true, false, cond, eqb, ◌↔◌, List, ◌++◌, length, Result, sym, refl, ap, ◌∙◌, arith, eqb-true}
 use Rattle.paint.specs.Paint.{painted}
 use Rattle.paint.proofs.Painted.{painted_same}
 use Rattle.pvrtc.specs.Calls.{refusal, TexelRead, Written}

@@ -1,12 +1,7 @@
 -- The program's picture is the block call's: it is accepted where the program refuses nothing, and its texels stand in the TGA.
 -- Assumes nothing.
-use mathlib.Core.Path.{◌≡◌, refl, ap, ap₂, ◌∙◌}
-use mathlib.Core.List.{List}
-use Prim.Native.Nat.{ℕ, ◌+◌, ◌*◌, ◌/◌, ◌%◌, ◌≤◌, ◌<◌}
-use native.Mathlib.Nat.{mul-le-mul_right}
-use native.Mathlib.Omega.{arith}
-use lib.ListN.{length, get_or, drop}
-use lib.Seq.{get_or-append-add}
+use Rattle.std.proofs.Common.{◌≡◌, ℕ, ◌+◌, ◌*◌, ◌/◌, ◌%◌, ◌<◌, ◌≤◌, List, length, get_or, drop, refl, ap, ◌∙◌, ap₂, mul-le-mul_right, arith}
+use Rattle.std.proofs.Common.{get_or-append-add}
 use Rattle.facts.specs.Tab.{tab}
 use Rattle.facts.proofs.Numbers.{split}
 use Rattle.facts.proofs.Tab.{get_or-tab}

@@ -1,7 +1,5 @@
 -- Demand 2: whatever call gives it, a texel is Khronos's. Assumes nothing.
-use mathlib.Core.Path.{◌≡◌, sym, ap₂, ◌∙◌}
-use Prim.Native.Nat.{ℕ, ◌*◌, ◌<◌}
-use native.Mathlib.Omega.{arith}
+use Rattle.std.proofs.Common.{◌≡◌, ℕ, ◌*◌, ◌<◌, sym, ◌∙◌, ap₂, arith}
 use Rattle.grid.specs.Grid.{blocks}
 use Rattle.khronos.specs.Agrees.{word32}
 use Rattle.khronos.specs.Khronos.{half_block}

@@ -1,13 +1,7 @@
 -- A KTX plate decodes as the same payload does from PVR. Assumes nothing.
-use Rattle.std.proofs.Common.{Result}
-use mathlib.Core.Path.{◌≡◌, refl, sym, ap, subst, ◌∙◌}
-use mathlib.Core.Bool.{Bool, true, false, not}
-use mathlib.Core.List.{List, [], ◌∷◌}
-use Prim.Native.Nat.{ℕ, ◌*◌, ◌/◌, ◌%◌, ◌≤◌}
-use native.Mathlib.Omega.{arith}
-use lib.Dec.{eqb}
-use lib.ListN.{length, drop}
-use borrow.Author.Tests.{eqb-true, eqb-false, eq-eqb, le-ltb}
+use Rattle.std.proofs.Common.{◌≡◌, ℕ, ◌*◌, ◌/◌, ◌%◌, ◌≤◌, Bool, true, false, not, eqb, List, [], ◌∷◌, length, drop, Result, sym, refl, ap, ◌∙◌, subst, arith}
+use Rattle.std.proofs.Common.{le-ltb, eq-eqb, eqb-true}
+use borrow.Author.Tests.{eqb-false}
 use Rattle.facts.specs.Checks.{Check, check, first_of}
 use Rattle.facts.proofs.Checks.{none_said, neither-said}
 use Rattle.files.specs.Reading.{Says}

@@ -1,12 +1,5 @@
 -- Whatever call gives a word, it is the picture's texel, of a picture that the call accepted. Assumes nothing.
-use Rattle.std.proofs.Common.{Result, Ok}
-use mathlib.Core.Path.{◌≡◌, refl, sym, ap, ◌∙◌}
-use mathlib.Core.Bool.{cond}
-use mathlib.Core.List.{List}
-use Prim.Native.Nat.{ℕ, ◌+◌, ◌*◌, ◌<◌}
-use native.Mathlib.Omega.{arith}
-use lib.Dec.{eqb}
-use lib.ListN.{length, get_or}
+use Rattle.std.proofs.Common.{◌≡◌, ℕ, ◌+◌, ◌*◌, ◌<◌, cond, eqb, List, length, get_or, Ok, Result, sym, refl, ap, ◌∙◌, arith}
 use Rattle.files.specs.Fields.{u32_at}
 use Rattle.ktx.specs.Picture as ktx
 use Rattle.ktx.specs.Picture.{KtxDecoded}
@@ -47,7 +40,8 @@ pub of-wrote : {n : ℕ} {done old new : List ℕ} → Wrote n done old new 0 �
 of-wrote w = record { number = w.number; words = w.words }
 
 -- the picture and the data of a call may be replaced by equal ones
-pub moved-block : {p q : Picture} {d e old new : List ℕ} {r : Result (Unit {0}) Refusal} → p ≡ q → d ≡ e → BlockDecoded p d old new r → BlockDecoded q e old new r
+pub moved-block : {p q : Picture} {d e old new : List ℕ} {r : Result (Unit {0}) Refusal} → p ≡ q → d ≡ e → BlockDecoded p d old new r
+    → BlockDecoded q e old new r
 moved-block ep ed b = rw (← ep, ← ed) b
 
 -- a decoded KTX file is the block call's picture of its data

@@ -1,9 +1,7 @@
 -- One side of a picture, g blocks of 2h texels round a torus: which texels draw on a block. Assumes nothing.
-use mathlib.Core.Path.{◌≡◌, refl, sym, ap, ◌∙◌}
-use mathlib.Core.Logic.{⊎_elim}
-use Prim.Native.Nat.{ℕ, zero, suc, ◌+◌, ◌-◌, ◌*◌, ◌/◌, ◌%◌, ◌≤◌, ◌<◌}
-use native.Mathlib.Nat.{div-add-mod', div-lt_iff_lt-mul, mod-lt, mod-eq_of_lt, mod-add-mod, add-mod_right, mul-le-mul_right}
-use native.Mathlib.Omega.{arith}
+use Rattle.std.proofs.Common.{◌≡◌, ℕ, zero, suc, ◌+◌, ◌-◌, ◌*◌, ◌/◌, ◌%◌, ◌<◌, ◌≤◌, sym, refl, ap, ◌∙◌, ⊎_elim, mul-le-mul_right, mod-lt, mod-eq_of_lt}
+use Rattle.std.proofs.Common.{div-lt_iff_lt-mul, div-add-mod', arith}
+use native.Mathlib.Nat.{mod-add-mod, add-mod_right}
 use Rattle.facts.proofs.Lists.{Value}
 use Rattle.facts.proofs.Numbers.{lt-or-le, split}
 use Rattle.grid.specs.Grid.{beside}

@@ -1,5 +1,5 @@
 -- The table's address is the bit-by-bit one at every place of every accepted picture. Assumes nothing.
-use lib.ListN.{length}
+use Rattle.std.proofs.Common.{length}
 use Rattle.grid.proofs.Address.{placed}
 use Rattle.grid.proofs.Interleave.{interleaved}
 use Rattle.grid.proofs.Spreading.{table-agrees}

@@ -1,16 +1,8 @@
 -- No footprint is too large: two runs tell a block at each texel that draws on it. All their bytes are 0, but for the eight of that block in
 -- one run, which are 15: both its colours have red 31, so red shows in the texel, whatever the weight. Assumes nothing.
-use mathlib.Core.Path.{◌≡◌, refl, sym, ap, ◌∙◌}
-use mathlib.Core.Bool.{Bool, true, false, cond}
-use mathlib.Core.List.{List, []}
-use mathlib.Core.Logic.{⊎_elim}
-use Prim.Native.Nat.{ℕ, ◌+◌, ◌*◌, ◌/◌, ◌%◌, ◌≤◌, ◌<◌}
-use native.Mathlib.Nat.{mod-lt, mul-pos, le-div_iff_mul-le}
-use native.Mathlib.Omega.{arith}
-use lib.Dec.{eqb, eqb→eq}
-use lib.ListN.{get_or, drop, get_or-eq_default}
-use lib.Seq.{get_or-drop}
-use borrow.Author.Tests.{eq-eqb, ne_eqb}
+use Rattle.std.proofs.Common.{◌≡◌, ℕ, ◌+◌, ◌*◌, ◌/◌, ◌%◌, ◌<◌, ◌≤◌, Bool, true, false, cond, eqb, List, [], get_or, drop, sym, refl, ap, ◌∙◌, ⊎_elim, mod-lt}
+use Rattle.std.proofs.Common.{mul-pos, le-div_iff_mul-le, arith, eqb→eq, get_or-drop, eq-eqb, ne_eqb}
+use lib.ListN.{get_or-eq_default}
 use Rattle.facts.specs.Bits.{flags}
 use Rattle.facts.specs.Sum.{sum}
 use Rattle.facts.specs.Tab.{tab}

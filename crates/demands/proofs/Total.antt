@@ -1,13 +1,5 @@
 -- Demand 1 over the calls: one outcome, its number, and every lent word. Assumes nothing.
-use mathlib.Core.Path.{◌≡◌, refl, sym, ap, ap₂, ◌∙◌}
-use mathlib.Core.Bool.{cond}
-use mathlib.Core.List.{List, ◌++◌}
-use Prim.Native.Nat.{ℕ, ◌*◌, ◌/◌, ◌%◌}
-use native.Mathlib.Nat.{mod-eq_of_lt}
-use native.Mathlib.Omega.{arith}
-use lib.Dec.{eqb}
-use lib.ListN.{length, drop}
-use borrow.Author.Tests.{ne_eqb}
+use Rattle.std.proofs.Common.{◌≡◌, ℕ, ◌*◌, ◌/◌, ◌%◌, cond, eqb, List, ◌++◌, length, drop, sym, refl, ap, ◌∙◌, ap₂, mod-eq_of_lt, arith, ne_eqb}
 use Rattle.facts.specs.Checks.{Check, first_of}
 use Rattle.facts.specs.Tab.{tab}
 use Rattle.facts.proofs.Checks.{exactly-when}

@@ -1,17 +1,9 @@
 -- A PVR file is refused by the number of its field, and every other answer is what it was. Assumes nothing.
-use mathlib.Core.Path.{◌≡◌, sym, subst}
-use mathlib.Core.Bool.{Bool, true, false, cond, not, ◌&&◌}
-use mathlib.Core.List.{List}
-use Prim.Native.Nat.{ℕ}
-use native.Mathlib.Omega.{arith}
-use lib.Dec.{T, leb}
-use lib.ListN.{length}
-use borrow.Author.Tests.{le-leb, ne_eqb}
+use Rattle.std.proofs.Common.{◌≡◌, ℕ, Bool, true, false, cond, not, ◌&&◌, T, leb, List, length, sym, subst, arith, ne_eqb, le-leb}
 use Rattle.facts.specs.Checks.{Check, first_of}
 use Rattle.files.proofs.Answers.{of_number, numbers_pass, said-passes}
 use Rattle.pvr.specs.Header.{header_checks, header_refusal}
 use Rattle.pvr.specs.OneNumber.{one_number_checks, one_number_refusal, OfField, SaysWhich}
-use Rattle.pvr.specs.Reading.{pvr_says}
 use Rattle.pvr.proofs.AnyFlags.{flags-stop, not_stopped}
 use Rattle.pvr.proofs.OneNumber.{same, header-which, none-same, or_else}
 use Rattle.ktx.specs.Header.{is_ktx}

@@ -1,14 +1,14 @@
 -- What was read of a file while its PVR header was refused by another list of checks, `head`. All else is that of today. Assumes nothing: these are
 -- definitions.
-use Rattle.std.specs.Prelude.{Result}
-use Rattle.std.specs.Prelude.{◌≡◌, true, cond, List, ◌++◌, ◌↔◌, ℕ, length}
+use Rattle.std.specs.Prelude.{◌≡◌, true, cond, List, ◌++◌, ◌↔◌, ℕ, length, Result}
 use Rattle.facts.specs.Checks.{Check, first_of}
 use Rattle.files.specs.Fields.{bits_of}
 use Rattle.files.specs.Reading.{Says, Shown}
+use Rattle.files.specs.declared.Stored.{Stored}
 use Rattle.paint.specs.Sheet.{on_sheet}
 use Rattle.pixel.specs.declared.ChannelOrder.{ChannelOrder}
 use Rattle.pvrtc.specs.Picture.{in_order, sheet_of, picture_texel}
-use Rattle.pvr.specs.Header.{width_field, height_field, is_two, payload_offset, HeaderAnswered, HeaderRead}
+use Rattle.pvr.specs.Header.{width_field, height_field, is_two, payload_offset, number_of, HeaderAnswered, HeaderRead}
 use Rattle.pvr.specs.Reading.{pvr_plate, pvr_says}
 use Rattle.ktx.specs.Header.{is_ktx}
 use Rattle.ktx.specs.Reading.{ktx_says}

@@ -1,7 +1,6 @@
 -- The order of channels over every call, as document 02 says it (W6): blue first all answers are what they were, red first each word is the
 -- same texel's with two bytes exchanged. Assumes nothing: these are definitions.
-use Rattle.std.specs.Prelude.{Result}
-use Rattle.std.specs.Prelude.{◌≡◌, cond, List, ◌++◌, ℕ, ◌+◌, ◌*◌, ◌/◌, ◌%◌, ◌<◌, eqb, get_or, drop}
+use Rattle.std.specs.Prelude.{◌≡◌, cond, List, ◌++◌, ℕ, ◌+◌, ◌*◌, ◌/◌, ◌%◌, ◌<◌, eqb, get_or, drop, Result}
 use Rattle.facts.specs.Tab.{tab}
 use Rattle.grid.specs.Grid.{half}
 use Rattle.pixel.specs.Pixel.{Pixel, exchanged}
@@ -62,9 +61,11 @@ words_in p = p.width * p.height
 pub record ExchangedCalls (p : Picture) (d : List ℕ) : Type 0 where
   pub texel : (x y : ℕ) (r s : Result ℕ Refusal) → TexelRead (in_order RedFirst p) d x y r → TexelRead (in_order BlueFirst p) d x y s
       → (texel_number r ≡ texel_number s) × (texel_value r ≡ exchanged (texel_value s))
-  pub row : (y : ℕ) (old new new' : List ℕ) (r s : Result (Unit {0}) Refusal) → RowDecoded (in_order RedFirst p) d y old new r → RowDecoded (in_order BlueFirst p) d y old new' s
+  pub row : (y : ℕ) (old new new' : List ℕ) (r s : Result (Unit {0}) Refusal) → RowDecoded (in_order RedFirst p) d y old new r
+      → RowDecoded (in_order BlueFirst p) d y old new' s
       → Exchanges p.width (decoded_number r) (decoded_number s) new new'
-  pub block : (old new new' : List ℕ) (r s : Result (Unit {0}) Refusal) → BlockDecoded (in_order RedFirst p) d old new r → BlockDecoded (in_order BlueFirst p) d old new' s
+  pub block : (old new new' : List ℕ) (r s : Result (Unit {0}) Refusal) → BlockDecoded (in_order RedFirst p) d old new r
+      → BlockDecoded (in_order BlueFirst p) d old new' s
       → Exchanges (words_in p) (decoded_number r) (decoded_number s) new new'
   pub c-texel : (x y : ℕ) → let red = texel_answer (in_order RedFirst p) d x y in let blue = texel_answer (in_order BlueFirst p) d x y in
       (red / 4294967296 ≡ blue / 4294967296) × (red % 4294967296 ≡ exchanged (blue % 4294967296))
@@ -79,7 +80,8 @@ pub record ExchangedFiles (file : List ℕ) : Type 0 where
       → Exchanges (words_in (ktx.plate_of file)) (ktx_number r) (ktx_number s) new new'
   pub c-ktx-picture : (old new new' : List ℕ) (n m : ℕ) → WroteKtx RedFirst file old new n → WroteKtx BlueFirst file old new' m
       → Exchanges (words_in (ktx.plate_of file)) n m new new'
-  pub level-picture : (k : ℕ) (old new new' : List ℕ) (r s : Result (Unit {0}) LevelRefusal) → LevelDecoded RedFirst file k old new r → LevelDecoded BlueFirst file k old new' s
+  pub level-picture : (k : ℕ) (old new new' : List ℕ) (r s : Result (Unit {0}) LevelRefusal) → LevelDecoded RedFirst file k old new r
+      → LevelDecoded BlueFirst file k old new' s
       → Exchanges (words_in (level.picture_of file k)) (level_number r) (level_number s) new new'
   pub c-level-picture : (k : ℕ) (old new new' : List ℕ) (n m : ℕ) → WroteLevel RedFirst file k old new n → WroteLevel BlueFirst file k old new' m
       → Exchanges (words_in (level.picture_of file k)) n m new new'

@@ -1,11 +1,10 @@
 -- A PVR file with flags other than 0 and 2 is refused with 18, and nothing else is read otherwise than before (document 02, W7). Over all that reads
 -- such a file. Assumes nothing: these are definitions.
-use Rattle.std.specs.Prelude.{Result, Err}
-use Rattle.std.specs.Prelude.{◌≡◌, Bool, not, ◌&&◌, List, ℕ, eqb, length}
+use Rattle.std.specs.Prelude.{◌≡◌, Bool, not, ◌&&◌, List, ℕ, eqb, length, Result, Err}
 use Rattle.files.specs.Reading.{Shown}
 use Rattle.pixel.specs.declared.ChannelOrder.{ChannelOrder}
 use Rattle.pvr.specs.AnyFlags.{any_flags_checks, any_flags_refusal, StopsFlags}
-use Rattle.pvr.specs.Header.{unknown_flags, header_refusal, header_number, HeaderRead}
+use Rattle.pvr.specs.Header.{unknown_flags, header_refusal, number_of, header_number, HeaderRead}
 use Rattle.pvr.specs.OneNumber.{one_number_refusal}
 use Rattle.pvr.specs.Reading.{pvr_says}
 use Rattle.ktx.specs.Header.{is_ktx}

@@ -1,7 +1,6 @@
 -- Demand 1, against idle versions: inputs at which each of them would break a promise, at either depth, in either mode and in either order.
 -- Assumes nothing: these are definitions.
-use Rattle.std.specs.Prelude.{Result, Ok}
-use Rattle.std.specs.Prelude.{◌≡◌, Bool, List, ℕ, ◌+◌, ◌*◌, ◌%◌, ◌<◌, get_or, replicate}
+use Rattle.std.specs.Prelude.{◌≡◌, Bool, List, ℕ, ◌+◌, ◌*◌, ◌%◌, ◌<◌, get_or, replicate, Result, Ok}
 use Rattle.grid.specs.Grid.{half, block_width}
 use Rattle.pixel.specs.declared.ChannelOrder.{ChannelOrder}
 use Rattle.pvrtc.specs.Calls.{TexelRead, RowDecoded, BlockDecoded}
@@ -53,11 +52,13 @@ pub record NoIdling (two : Bool) (mode : GridMode) (order : ChannelOrder) : Type
   -- It refuses each time: these calls must not.
   pub texel-told : (r : Result ℕ Refusal) → TexelRead (beside2 two mode order) red_corner 0 0 r → texel_number r ≡ 0
   pub row_told : (new : List ℕ) (r : Result (Unit {0}) Refusal) → RowDecoded (beside2 two mode order) red_corner 2 (lent_row two) new r → decoded_number r ≡ 0
-  pub block-told : (new : List ℕ) (r : Result (Unit {0}) Refusal) → BlockDecoded (beside2 two mode order) red_corner (lent_image two) new r → decoded_number r ≡ 0
+  pub block-told : (new : List ℕ) (r : Result (Unit {0}) Refusal) → BlockDecoded (beside2 two mode order) red_corner (lent_image two) new r
+      → decoded_number r ≡ 0
   -- It answers one fixed colour, and none can stand for all of these texels.
   pub texel-varies : (v : ℕ) → TexelRead (beside2 two mode order) red_corner (half two) 2 (Ok v)
       → TexelRead (beside2 two mode order) red_corner (3 * half two) 2 (Ok v) → ⊥
-  pub row-varies : (v : ℕ) (new : List ℕ) → RowDecoded (beside2 two mode order) red_corner 2 (lent_row two) new (Ok tt) → OneColour (2 * block_width two) v new → ⊥
+  pub row-varies : (v : ℕ) (new : List ℕ) → RowDecoded (beside2 two mode order) red_corner 2 (lent_row two) new (Ok tt)
+      → OneColour (2 * block_width two) v new → ⊥
   pub block-varies : (v : ℕ) (new : List ℕ) → BlockDecoded (beside2 two mode order) red_corner (lent_image two) new (Ok tt)
       → OneColour (8 * block_width two) v new → ⊥
   -- It writes nothing and reports success.

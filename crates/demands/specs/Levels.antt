@@ -1,6 +1,5 @@
 -- The levels of a file beside one another, and level 0 beside the plate. Assumes nothing: these are definitions.
-use Rattle.std.specs.Prelude.{Result, Ok}
-use Rattle.std.specs.Prelude.{◌≡◌, Bool, true, false, cond, List, ◌++◌, ◌↔◌, ℕ, ◌+◌, ◌*◌, ◌≤◌, ◌<◌, ltb, length, get_or}
+use Rattle.std.specs.Prelude.{◌≡◌, Bool, true, false, cond, List, ◌++◌, ◌↔◌, ℕ, ◌+◌, ◌*◌, ◌≤◌, ◌<◌, ltb, length, get_or, Result, Ok}
 use Rattle.facts.specs.Checks.{first_of}
 use Rattle.files.specs.Fields.{u32_at}
 use Rattle.khronos.specs.Agrees.{Bytes}
@@ -63,7 +62,8 @@ pub record AlikeAt (f g : List ℕ) (k : ℕ) : Type 0 where
 -- Level k is the same in both: whatever describing or decoding it answers and writes, in either order, and what C is told.
 pub record SameLevel (f g : List ℕ) (k : ℕ) : Type 0 where
   pub description : (r : Result Level LevelRefusal) → LevelRead f k r ↔ LevelRead g k r
-  pub picture : (order : ChannelOrder) (old new : List ℕ) (r : Result (Unit {0}) LevelRefusal) → LevelDecoded order f k old new r ↔ LevelDecoded order g k old new r
+  pub picture : (order : ChannelOrder) (old new : List ℕ) (r : Result (Unit {0}) LevelRefusal) → LevelDecoded order f k old new r
+      ↔ LevelDecoded order g k old new r
   pub c-field : (field : ℕ) → level_field f k field ≡ level_field g k field
   pub c-picture : (order : ChannelOrder) (old new : List ℕ) (n : ℕ) → WroteLevel order f k old new n ↔ WroteLevel order g k old new n
 

@@ -1,7 +1,6 @@
 -- Demand 3, over every call and the program: a texel depends on its footprint, and damage in a block stays near it.
 -- Assumes nothing: these are definitions.
-use Rattle.std.specs.Prelude.{Ok}
-use Rattle.std.specs.Prelude.{◌≡◌, Bool, false, cond, not, ◌↔◌, ℕ, ◌+◌, ◌*◌, ◌/◌, ◌%◌, ◌≤◌, ◌<◌, eqb, length, get_or}
+use Rattle.std.specs.Prelude.{◌≡◌, Bool, false, cond, not, ◌↔◌, ℕ, ◌+◌, ◌*◌, ◌/◌, ◌%◌, ◌≤◌, ◌<◌, eqb, length, get_or, Ok}
 use mathlib.Core.List.{List, Memᴰ}
 use Rattle.facts.specs.Count.{count}
 use Rattle.grid.specs.Grid.{block_width, block_address, beside}

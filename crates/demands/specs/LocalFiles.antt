@@ -1,7 +1,6 @@
 -- Demand 3 over files: damage in the eight bytes of one block changes no texel outside that block's rectangle.
 -- Assumes nothing: these are definitions.
-use Rattle.std.specs.Prelude.{Ok}
-use Rattle.std.specs.Prelude.{◌≡◌, not, ℕ, ◌+◌, ◌*◌, ◌≤◌, ◌<◌, eqb, length, get_or}
+use Rattle.std.specs.Prelude.{◌≡◌, not, ℕ, ◌+◌, ◌*◌, ◌≤◌, ◌<◌, eqb, length, get_or, Ok}
 use mathlib.Core.List.{List, Memᴰ}
 use Rattle.facts.specs.Count.{count}
 use Rattle.files.specs.Fields.{u32_at}

@@ -1,7 +1,6 @@
 -- The two modes of a picture side by side: where both have one grid they agree, call by call; and a plate that tells them apart.
 -- Assumes nothing: these are definitions.
-use Rattle.std.specs.Prelude.{Result, Ok}
-use Rattle.std.specs.Prelude.{◌≡◌, false, List, [], ◌∷◌, ◌↔◌, ℕ, ◌*◌, ◌/◌, ◌%◌, ◌≤◌, get_or, take, replicate}
+use Rattle.std.specs.Prelude.{◌≡◌, false, List, [], ◌∷◌, ◌↔◌, ℕ, ◌*◌, ◌/◌, ◌%◌, ◌≤◌, get_or, take, replicate, Result, Ok}
 use Rattle.facts.specs.Tab.{tab}
 use Rattle.grid.specs.Grid.{block_width}
 use Rattle.ktx.specs.Picture as ktx

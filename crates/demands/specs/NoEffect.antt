@@ -1,6 +1,5 @@
 -- What of a file has no effect, over everything that reads one. Assumes nothing: these are definitions.
-use Rattle.std.specs.Prelude.{Result}
-use Rattle.std.specs.Prelude.{◌≡◌, true, false, List, ◌++◌, ◌↔◌, ℕ, ◌+◌, ◌≤◌, length, get_or}
+use Rattle.std.specs.Prelude.{◌≡◌, true, false, List, ◌++◌, ◌↔◌, ℕ, ◌+◌, ◌≤◌, length, get_or, Result}
 use Rattle.pvr.specs.Header.{unknown_flags, HeaderRead as PvrHeaderRead}
 use Rattle.pvr.specs.NoEffect.{may_differ}
 use Rattle.ktx.specs.Header.{is_ktx, payload_offset, HeaderRead as KtxHeaderRead}
@@ -57,6 +56,7 @@ pub record LaterUnread : Type 0 where
   pub ktx-header : (file more : List ℕ) → payload_offset file ≤ length file
       → (r : Result KtxPlate KtxHeaderRefusal) → KtxHeaderRead file r ↔ KtxHeaderRead (file ++ more) r
   pub ktx-picture : (file more : List ℕ) → payload_offset file + need (ktx.plate_of file) ≤ length file
-      → (order : ChannelOrder) (old new : List ℕ) (r : Result (Unit {0}) KtxRefusal) → KtxDecoded order file old new r ↔ KtxDecoded order (file ++ more) old new r
+      → (order : ChannelOrder) (old new : List ℕ) (r : Result (Unit {0}) KtxRefusal) → KtxDecoded order file old new r
+      ↔ KtxDecoded order (file ++ more) old new r
   pub c-picture : (file more : List ℕ) → payload_offset file + need (ktx.plate_of file) ≤ length file
       → (order : ChannelOrder) (old new : List ℕ) (n : ℕ) → WroteKtx order file old new n ↔ WroteKtx order (file ++ more) old new n

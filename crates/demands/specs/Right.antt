@@ -1,6 +1,5 @@
 -- Demand 2, over every call and the program: each texel is the one that Khronos describes, in either order of channels. Assumes nothing: these are definitions.
-use Rattle.std.specs.Prelude.{Ok}
-use Rattle.std.specs.Prelude.{◌≡◌, List, ℕ, ◌+◌, ◌*◌, ◌<◌, get_or}
+use Rattle.std.specs.Prelude.{◌≡◌, List, ℕ, ◌+◌, ◌*◌, ◌<◌, get_or, Ok}
 use Rattle.khronos.specs.Agrees.{Bytes, word32}
 use Rattle.khronos.specs.Khronos.{half_block}
 use Rattle.khronos.specs.Storage.{blocks_along, stored_along, khronos_picture}

@@ -1,6 +1,5 @@
 -- A KTX plate decodes as the same payload does from PVR. Assumes nothing: these are definitions.
-use Rattle.std.specs.Prelude.{Result}
-use Rattle.std.specs.Prelude.{◌≡◌, true, false, List, ◌↔◌, ℕ, ◌≤◌, ◌<◌, length, get_or}
+use Rattle.std.specs.Prelude.{◌≡◌, true, false, List, ◌↔◌, ℕ, ◌≤◌, ◌<◌, length, get_or, Result}
 use Rattle.pvr.specs.Header as pvr
 use Rattle.ktx.specs.Header as ktx
 use Rattle.ktx.specs.Header.{is_ktx}

@@ -1,7 +1,6 @@
 -- Demand 1, over the calls, what C calls and files: every call ends with its answer or a numbered refusal.
 -- Assumes nothing: these are definitions.
-use Rattle.std.specs.Prelude.{Result}
-use Rattle.std.specs.Prelude.{◌≡◌, List, ◌++◌, ◌↔◌, ℕ, ◌+◌, ◌*◌, ◌/◌, ◌%◌, ◌≤◌, ◌<◌, length, drop}
+use Rattle.std.specs.Prelude.{◌≡◌, List, ◌++◌, ◌↔◌, ℕ, ◌+◌, ◌*◌, ◌/◌, ◌%◌, ◌≤◌, ◌<◌, length, drop, Result}
 use Rattle.facts.specs.Checks.{Check, Given}
 use Rattle.facts.specs.Tab.{tab}
 use Rattle.pixel.specs.declared.ChannelOrder.{ChannelOrder}

@@ -1,7 +1,6 @@
 -- A PVR file is refused by the number of its field (document 02, W4): everything refused as 14 before is still refused, and nothing else is. Over
 -- what reads such a file. Assumes nothing: these are definitions.
-use Rattle.std.specs.Prelude.{Result, Err}
-use Rattle.std.specs.Prelude.{◌≡◌, List, ℕ, ◌<◌}
+use Rattle.std.specs.Prelude.{◌≡◌, List, ℕ, ◌<◌, Result, Err}
 use Rattle.files.specs.Reading.{Shown}
 use Rattle.pvr.specs.Header.{header_refusal, number_of, header_number, HeaderRead}
 use Rattle.pvr.specs.OneNumber.{one_number_checks, one_number_refusal, SaysWhich}

@@ -1,18 +1,12 @@
 -- A number in a file depends on its own bytes, and so on none behind them. Assumes nothing.
-use mathlib.Core.Path.{◌≡◌, refl, sym, ap, ◌∙◌}
-use mathlib.Core.Bool.{Bool, true, false, not}
-use mathlib.Core.List.{List, ◌++◌}
-use mathlib.Core.Logic.{⊎_elim}
-use Prim.Native.Nat.{ℕ, zero, suc, ◌^◌, ◌+◌, ◌-◌, ◌*◌, ◌/◌, ◌%◌, ◌<◌, ◌≤◌, min}
-use native.Mathlib.Nat.{pow-le-pow_right, zero-lt-suc, div-eq_of_lt, add_assoc, div-one, div-div-eq-div-mul, div-add-mod', mod-eq_of_lt}
-use native.Mathlib.Omega.{arith}
-use lib.Dec.{T}
-use lib.ListN.{length, get_or, take, drop, length-drop, drop_of_length-le, get_or-append, get_or-eq_default}
+use Rattle.std.proofs.Common.{◌≡◌, ℕ, zero, suc, ◌+◌, ◌-◌, ◌*◌, ◌/◌, ◌%◌, ◌^◌, ◌<◌, ◌≤◌, min, Bool, true, false, not, T, ◌≢◌, List, [], ◌++◌, length, get_or}
+use Rattle.std.proofs.Common.{take, drop, set, Some, None, Option, sym, refl, ap, ◌∙◌, ⊎_elim, add_assoc, mod-eq_of_lt, zero-lt-suc, div-add-mod', div-one}
+use Rattle.std.proofs.Common.{arith, length-drop, drop_of_length-le, get_or-drop, take_all, get_or-set_other, get_or-set_same, ext_get_or, Bor, below_more}
+use native.Mathlib.Nat.{pow-le-pow_right, div-eq_of_lt, div-div-eq-div-mul}
+use lib.ListN.{get_or-append}
 use Rattle.std.specs.Slice.{IsGetRangeResult}
 use Rattle.std.specs.Option.{unwrap_or}
 use Rattle.std.specs.Int.{to_le_bytes, from_le_bytes, w32, w64}
-use Rattle.std.proofs.Common.{Option, None, Some, Bor, [], ◌≢◌, below_more, set, get_or-set_other, get_or-set_same}
-use lib.Seq.{ext_get_or, get_or-drop, take_all}
 use Rattle.facts.specs.Finite.{all_below}
 use Rattle.facts.proofs.Finite.{below}
 use Rattle.facts.proofs.Numbers.{lt-or-le}
@@ -88,16 +82,16 @@ pub next-read : (bytes rest : List ℕ) {k v : ℕ} → k < length bytes → v �
 next-read bytes rest {k} within read before =
     below_more _ _ (λ j h. let other : j ≢ k = omega arith in rw get_or-set_other (before j h)) (rw get_or-set_same read)
 
--- the rest of a file from a place on, or nothing where the place is behind its end: what is read there is read from the file
-pub rest-read : (file : List ℕ) (at k : ℕ) (rest : Option (Bor (List ℕ))) (none : Bor (List ℕ)) {found : Bor (List ℕ)}
-    → IsGetRangeResult file at (length file) rest → none.now ≡ [] → found ≡ unwrap_or rest none → get_or found.now k 0 ≡ get_or file (at + k) 0
-rest-read file at k None none past z e =
-    let behind : length file ≤ at + k = ⊎_elim (λ (l : length file < at). omega arith) (λ (l : length file < length file). omega arith) past.0 in
-    ap (λ (b : Bor (List ℕ)). get_or b.now k 0) e ∙ ap (λ (l : List ℕ). get_or l k 0) z ∙ sym (get_or-eq_default file 0 {n = at + k} behind)
-rest-read file at k (Some x) none part z e =
-    ap (λ (b : Bor (List ℕ)). get_or b.now k 0) e
-    ∙ ap (λ (l : List ℕ). get_or l k 0) (part.0.2 ∙ take_all (length file - at) (drop at file) (omega (arith, length-drop at file)))
-    ∙ get_or-drop at file k 0
+-- the rest of a file from a place on, or nothing where the place is behind its end
+pub rest-is : (file : List ℕ) (at : ℕ) (rest : Option (Bor (List ℕ))) (none : Bor (List ℕ)) {found : Bor (List ℕ)}
+    → IsGetRangeResult file at (length file) rest → none.now ≡ [] → found ≡ unwrap_or rest none → found.now ≡ drop at file
+rest-is file at None none past z e =
+    let behind : length file ≤ at = ⊎_elim (λ (l : length file < at). omega arith) (λ (l : length file < length file). omega arith) past.0 in
+    ap (λ (b : Bor (List ℕ)). b.now) e ∙ z ∙ sym (drop_of_length-le file behind)
+rest-is file at (Some x) none part z e =
+    ap (λ (b : Bor (List ℕ)). b.now) e
+    ∙ part.0.2
+    ∙ take_all (length file - at) (drop at file) (omega (arith, length-drop at file))
 
 -- bytes read one by one, put together as the library puts them
 pub four-read : (file : List ℕ) (at : ℕ) (bytes : List ℕ) → ((k : ℕ) → k < 4 → get_or bytes k 0 ≡ get_or file (at + k) 0)

@@ -41,6 +41,7 @@ fn bytes_at<const N: usize>(file: &[u8], at: usize) -> [u8; N]
 }
 
 // The four bytes from place `at` on, little-endian.
+#[inline]
 pub fn u32_at(file: &[u8], at: usize) -> u32
     ensures { (result ≡ u32_at file.now at) × (result < 4294967296) }
 {
@@ -48,6 +49,7 @@ pub fn u32_at(file: &[u8], at: usize) -> u32
 }
 
 // The eight bytes from place `at` on, little-endian.
+#[inline]
 pub fn u64_at(file: &[u8], at: usize) -> u64
     ensures { result ≡ u64_at file.now at }
 {

@@ -1,14 +1,8 @@
 -- Laws of eight numbers as the bytes of one, and of a row of weights filled by one sum, for any rule. Assumes nothing.
-use mathlib.Core.Path.{◌≡◌, sym, ap, ap₂, ◌∙◌}
-use mathlib.Core.Bool.{Bool, true, false, cond}
-use mathlib.Core.List.{List, [], ◌∷◌}
-use Prim.Native.Nat.{ℕ, zero, suc, ◌+◌, ◌*◌, ◌/◌, ◌%◌, ◌^◌, ◌≤◌, ◌<◌}
-use native.Mathlib.Nat.{mul-le-mul_left, zero-div}
-use native.Mathlib.Omega.{arith}
-use borrow.Author.Rules.{rules}
-use lib.Bits.{bit_and, and_block, and_mask, and_zero_l, and_zero_r}
-use lib.ListN.{get_or}
-use lib.Pow.{shr-shr}
+use Rattle.std.proofs.Common.{◌≡◌, ℕ, zero, suc, ◌+◌, ◌*◌, ◌/◌, ◌%◌, ◌^◌, ◌<◌, ◌≤◌, Bool, true, false, cond, List, [], ◌∷◌, get_or, bit_and, sym, ap, ◌∙◌}
+use Rattle.std.proofs.Common.{ap₂, mul-le-mul_left, arith, shr-shr, rules}
+use native.Mathlib.Nat.{zero-div}
+use lib.Bits.{and_block, and_mask, and_zero_l, and_zero_r}
 use Rattle.facts.proofs.Tab.{get_or-tab}
 use Rattle.facts.specs.Tab.{tab}
 use Rattle.lanes.specs.declared.FillRule.{FillRule}

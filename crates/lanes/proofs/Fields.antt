@@ -1,10 +1,7 @@
 -- Three channels as fields of five bits in one number, and how one product lays them in lanes. Assumes nothing.
-use mathlib.Core.Path.{◌≡◌, refl, ap, ap₂, ◌∙◌}
-use mathlib.Core.Bool.{Bool, true, false, cond}
-use Prim.Native.Nat.{ℕ, ◌+◌, ◌*◌, ◌/◌, ◌%◌, ◌≤◌, ◌<◌}
-use native.Mathlib.Nat.{div-div-eq-div-mul, mul-le-mul}
-use native.Mathlib.Omega.{arith}
-use lib.Bits.{bit_and, and_block, and_le_l, and_mask}
+use Rattle.std.proofs.Common.{◌≡◌, ℕ, ◌+◌, ◌*◌, ◌/◌, ◌%◌, ◌<◌, Bool, true, false, cond, bit_and, refl, ap, ◌∙◌, ap₂, arith}
+use native.Mathlib.Nat.{div-div-eq-div-mul}
+use lib.Bits.{and_block, and_mask}
 use Rattle.pixel.specs.declared.ChannelOrder.{ChannelOrder}
 use Rattle.pixel.specs.declared.ChannelOrder.TheVariants.{BlueFirst, RedFirst}
 use Rattle.word.specs.Word.{opaque, color_of}
@@ -24,9 +21,6 @@ module _ (b g r : ℕ) (hb : b < 32) (hg : g < 32) (hr : r < 32) where
 
   pub red-is : fields b g r / 1024 ≡ r
   red-is = omega arith
-
-  pub fields-low : fields b g r < 32768
-  fields-low = omega arith
 
 -- fields of four bits, each followed by its top bit
 module _ (b g r : ℕ) (hb : b < 16) (hg : g < 16) (hr : r < 16) where
@@ -120,13 +114,6 @@ module _ (order : ChannelOrder) (c b b' : ℕ) (hb : b < 32) (hb' : b' < 32) {f 
       let k = are (opaque c) in
       er ∙ rw (ef, ea, k.0, k.1, k.2, k.3)
 
-  pub low-fields : (f < 32768) × (a ≤ 30)
-  low-fields = rw (ef, ea) (low (opaque c))
-    where
-      low : (t : Bool) → (cond t (opaque_fields c b) (clear_fields c b') < 32768) × (cond t 30 (c / 4096 % 8 * 4) ≤ 30)
-      low true = (fields-low b (c / 32 % 32) (c / 1024 % 32) hb (omega arith) (omega arith), omega arith)
-      low false = (fields-low b' (c / 16 % 16 * 2 + c / 128 % 2) (c / 256 % 16 * 2 + c / 2048 % 2) hb' (omega arith) (omega arith), omega arith)
-
 -- the top bit of four
 top_bit : (n : ℕ) → n % 16 / 8 ≡ n / 8 % 2
 top_bit n = omega arith
@@ -160,15 +147,3 @@ module _ (c : ℕ) where
 
   pub clear-b : {w : ℕ} → w ≡ widened (fields (c % 16) (c / 16 % 16) (c / 256 % 16)) → w ≡ clear_fields c (c % 16 * 2 + c / 8 % 2)
   clear-b ew = ew ∙ four-bits (c % 16) (omega arith) ∙ ap (λ (n : ℕ). clear_fields c (c % 16 * 2 + n)) (top_bit c)
-
--- what the code's product is bounded by
-spread-le : (order : ChannelOrder) → spread_of order ≤ 0x04000001
-spread-le BlueFirst = omega arith
-spread-le RedFirst = omega arith
-
-pub spread-fits : (order : ChannelOrder) (f m : ℕ) {s : ℕ} → f < 32768 → s ≡ spread_of order → bit_and f m * s ≤ 2199023288320
-spread-fits order f m {s} h e =
-    let l = and_le_l f m in
-    let few : bit_and f m ≤ 32768 = omega arith in
-    let below : s ≤ 0x04000001 = rw e (spread-le order) in
-    omega (arith, mul-le-mul few below)

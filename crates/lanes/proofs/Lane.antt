@@ -1,11 +1,8 @@
 -- Laws of four numbers as the 16-bit lanes of one: masks and shifts act on each lane apart. Assumes nothing.
-use mathlib.Core.Path.{◌≡◌, refl, ap, ap₂, ◌∙◌}
-use mathlib.Core.Bool.{Bool, true, false, cond}
-use Prim.Native.Nat.{ℕ, ◌+◌, ◌*◌, ◌/◌, ◌%◌, ◌-◌, ◌≤◌, ◌<◌}
-use native.Mathlib.Nat.{add-mul, mul-add, mul_assoc, mul-le-mul, mul-le-mul_left, mul-le-mul_right, add-mul-div_right, add-mul-mod_self_right, div-add-mod'}
-use native.Mathlib.Nat.{mod-lt}
-use native.Mathlib.Omega.{arith}
-use lib.Bits.{bit_and, and_block, and_high, and_le_l, and_le_r, and_mask, and_mod, and_zero_r}
+use Rattle.std.proofs.Common.{◌≡◌, ℕ, ◌+◌, ◌-◌, ◌*◌, ◌/◌, ◌%◌, ◌<◌, ◌≤◌, Bool, true, false, cond, bit_and, refl, ap, ◌∙◌, ap₂, mul-le-mul_right, mod-lt}
+use Rattle.std.proofs.Common.{mul_assoc, add-mul, mul-le-mul_left, div-add-mod', mul-add, arith}
+use native.Mathlib.Nat.{add-mul-div_right, add-mul-mod_self_right}
+use lib.Bits.{and_block, and_high, and_le_r, and_mask, and_mod, and_zero_r}
 use Rattle.facts.proofs.Numbers.{cond-le}
 use Rattle.grid.specs.Grid.{half}
 use Rattle.pixel.specs.Pixel.{packed, EightBits}
@@ -262,16 +259,7 @@ pub texel-lanes : (order : ChannelOrder) (two : Bool) (s t : PVRTCTexelColorInt)
 texel-lanes BlueFirst two s t w p ls lt hw = blue-first two s t w p ls lt hw
 texel-lanes RedFirst two s t w p ls lt hw = blue-first two (turned s) (turned t) w p (low-turned ls) (low-turned lt) hw
 
--- what the code's products are bounded by
-pub grown-fits : (z m : ℕ) → z ≤ 288230376151711744 → grown (bit_and z m) < 18446744073709551616
-grown-fits z m h = let p = and_le_l z m in let q = and_le_l (bit_and z m) top in omega arith
-
-pub product-fits : (a b w : ℕ) → a ≤ bytes → b ≤ bytes → w ≤ 15 → (b + bias - a) * w + 8 * a < 18446744073709551616
-product-fits a b w ha hb hw =
-    let k : b + bias - a ≤ bytes + bias = omega arith in
-    let p : (b + bias - a) * w ≤ (bytes + bias) * 15 = mul-le-mul k hw in
-    omega arith
-
+-- what is kept is a word
 pub one_word : (x k : ℕ) → Mask k → joined (bit_and x k) < 4294967296
 one_word x k h =
     let e : bit_and x k % 4294967296 ≡ bit_and (x % 4294967296) (k % 4294967296) = and_mod x k 32 in

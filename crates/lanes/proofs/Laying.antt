@@ -1,17 +1,10 @@
 -- How the texels of a row are laid, at either depth: word by word, as far as its sheet has columns. Assumes nothing.
-use mathlib.Core.Path.{◌≡◌}
-use mathlib.Core.Bool.{Bool, true, false}
-use mathlib.Core.List.{List}
-use Prim.Native.Nat.{ℕ, ◌+◌, ◌*◌, ◌≤◌, ◌<◌, min}
-use native.Mathlib.Omega.{arith}
-use lib.ListN.{length, set}
+use Rattle.std.proofs.Common.{◌≡◌, ℕ, ◌+◌, ◌*◌, ◌<◌, ◌≤◌, min, Bool, true, false, List, length, set, arith}
 use Rattle.grid.specs.Grid.{half}
 use Rattle.paint.proofs.Laid.{Row, row-none, row_word}
-use Rattle.paint.specs.Paint.{painted}
 use Rattle.lanes.specs.declared.Sums.{Sums}
-use Rattle.lanes.specs.declared.Column.{Column}
 use Rattle.lanes.specs.declared.Meaning.{Meaning}
-use Rattle.lanes.specs.Column.{across, sums_at, SmallColumn, SmallSums}
+use Rattle.lanes.specs.Column.{across, SmallSums}
 use Rattle.lanes.specs.Lanes.{fitted, mixed_lanes, texel_lanes}
 use Rattle.lanes.proofs.Linear.{sums-fit}
 
@@ -47,18 +40,6 @@ module _ {h : ℕ} {a b : Sums} {f : ℕ → ℕ} {old : List ℕ} {at columns i
     word_cut c =
         let same : min i columns ≡ min (i + 1) columns = omega arith in
         record { early = omega arith; is-a = ea; is-b = eb; laid = rw (← same) r.laid }
-
-  -- all of them
-  pub row-end : columns ≤ i → img ≡ painted at columns columns 1 (λ x y. f x) old
-  row-end c =
-      let all : min i columns ≡ columns = omega arith in
-      (rw all at r.laid).is
-
--- a row of three small columns is small, in either colour
-module _ {left own right : Column} {j : ℕ} (p : SmallColumn left) (q : SmallColumn own) (r : SmallColumn right) (l : j < 4) where
-  pub row_small : SmallSums (sums_at left.a own.a right.a j) × SmallSums (sums_at left.b own.b right.b j)
-  row_small =
-      (record { left = p.a _ l; own = q.a _ l; right = r.a _ l }, record { left = p.b _ l; own = q.b _ l; right = r.b _ l })
 
 -- a texel, as it is made
 pub made : (h x y : ℕ) {m n : Meaning} {a b t : ℕ} → a ≡ fitted h x → b ≡ fitted h y → m ≡ n → t ≡ mixed_lanes a b m.weight m.keep

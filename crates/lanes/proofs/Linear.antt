@@ -1,9 +1,5 @@
 -- Sums of shares are linear in the lanes: what the window sums, down and across, is the nine words' sums as lanes. Assumes nothing.
-use mathlib.Core.Path.{◌≡◌, refl, sym, ap, ◌∙◌}
-use mathlib.Core.Bool.{Bool}
-use Prim.Native.Nat.{ℕ, zero, suc, ◌+◌, ◌*◌, ◌/◌, ◌%◌, ◌-◌, ◌≤◌, ◌<◌}
-use native.Mathlib.Nat.{mul-le-mul_left}
-use native.Mathlib.Omega.{arith}
+use Rattle.std.proofs.Common.{◌≡◌, ℕ, zero, suc, ◌+◌, ◌-◌, ◌*◌, ◌/◌, ◌%◌, ◌<◌, ◌≤◌, Bool, sym, refl, ap, ◌∙◌, mul-le-mul_left, arith}
 use Rattle.facts.specs.Sum.{sum}
 use Rattle.pixel.specs.declared.ChannelOrder.{ChannelOrder}
 use Rattle.pixel.specs.declared.ChannelOrder.TheVariants.{BlueFirst, RedFirst}

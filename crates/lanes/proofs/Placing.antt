@@ -1,10 +1,7 @@
 -- Where words stand: bits spread by masks, and an address as the sum of what its column and its row add. Assumes nothing.
-use mathlib.Core.Bool.{Bool, true, false}
-use mathlib.Core.Path.{◌≡◌, refl, sym, ap, ap₂, ◌∙◌}
-use Prim.Native.Nat.{ℕ, zero, suc, ◌+◌, ◌*◌, ◌/◌, ◌-◌, ◌≤◌, ◌<◌, min}
-use native.Mathlib.Omega.{arith}
-use lib.Bits.{bit_and, bit_or, and_zero_l}
-use lib.Dec.{eqb, eqb→eq}
+use Rattle.std.proofs.Common.{◌≡◌, ℕ, zero, suc, ◌+◌, ◌-◌, ◌*◌, ◌/◌, ◌<◌, ◌≤◌, min, Bool, true, false, eqb, bit_and, bit_or, sym, refl, ap, ◌∙◌, ap₂, arith}
+use Rattle.std.proofs.Common.{eqb→eq}
+use lib.Bits.{and_zero_l}
 use Rattle.facts.proofs.Finite.{below}
 use Rattle.grid.proofs.Address.{address-small}
 use Rattle.grid.proofs.Spreading.{by-table}
@@ -15,7 +12,7 @@ use Rattle.grid.specs.Grid.{half, block_width, blocks, log2, address, block_addr
 use Rattle.grid.specs.Words.{Stands}
 use Rattle.paint.specs.declared.Sheet.{Sheet}
 use Rattle.lanes.specs.declared.RowAddresses.{RowAddresses}
-use Rattle.lanes.specs.BlockRow.{addresses_of, InColumn, Ready}
+use Rattle.lanes.specs.BlockRow.{addresses_of, column_words, InData, Ready}
 
 -- eight bits spread by masks
 abbrev pub once : ℕ → ℕ
@@ -121,13 +118,13 @@ module _ {g : Grid} {by len : ℕ} {row : RowAddresses} (r : RowAt g by len row)
     unfolding addresses_of
     word_below = word_in 2 row.below (ap (λ (a : RowAddresses). a.below) r.is)
 
-    pub in-column : InColumn row part len
-    in-column = record { above = word-above.1; own = word-own.1; below = word_below.1 }
+    pub in-data : InData (column_words row part) len
+    in-data = record { above = word-above.1; own = word-own.1; below = word_below.1 }
 
 -- what reading column k beside block bx asks
 pub asked : {g : Grid} {by len : ℕ} {row : RowAddresses} → RowAt g by len row → (bx k : ℕ) {x : ℕ} → x ≡ beside g.across bx k
-    → Placed row.smaller x 0 × InColumn row (address (log2 row.smaller) x 0) len
-asked r bx k ex = (placed-column r bx k ex, in-column r (part-seen r bx k ex refl))
+    → Placed row.smaller x 0 × InData (column_words row (address (log2 row.smaller) x 0)) len
+asked r bx k ex = (placed-column r bx k ex, in-data r (part-seen r bx k ex refl))
 
 -- a block that covers a row is one of the grid's
 pub covers : {g : Grid} {by : ℕ} {row : Sheet} {len room : ℕ} → Ready g by row len room → {n bx : ℕ}

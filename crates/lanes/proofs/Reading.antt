@@ -1,18 +1,12 @@
 -- Colours as lanes, as the code reads them. Assumes nothing.
-use mathlib.Core.Path.{◌≡◌, refl, sym, ap, ap₂, ◌∙◌}
-use mathlib.Core.Bool.{true}
-use mathlib.Core.List.{List, [], ◌∷◌}
-use Prim.Native.Nat.{ℕ, ◌+◌, ◌*◌, ◌<◌, ◌≤◌}
-use native.Mathlib.Omega.{arith}
-use lib.ListN.{get_or}
-use lib.Seq.{get_or-drop}
+use Rattle.std.proofs.Common.{◌≡◌, ℕ, ◌+◌, ◌*◌, ◌<◌, ◌≤◌, true, List, [], ◌∷◌, get_or, sym, refl, ap, ◌∙◌, ap₂, arith, get_or-drop}
 use Rattle.facts.proofs.Tab.{get_or-tab}
 use Rattle.facts.specs.Tab.{tab}
 use Rattle.pixel.specs.declared.ChannelOrder.{ChannelOrder}
 use Rattle.pixel.specs.declared.ChannelOrder.TheVariants.{BlueFirst, RedFirst}
 use Rattle.texel.specs.Texel.{share}
 use Rattle.word.proofs.Bounds.{small-a, small_b, color-a, color-b}
-use Rattle.word.specs.Word.{blue_a, blue_b, color_of, Small}
+use Rattle.word.specs.Word.{modulation, blue_a, blue_b, color_of, Small}
 use Rattle.word.specs.declared.PVRTCTexelColor.{PVRTCTexelColor}
 use Rattle.lanes.specs.declared.Column.{Column}
 use Rattle.lanes.specs.Column.{word_at, lanes_a, lanes_b, column_of, most, SmallColumn}
@@ -22,6 +16,14 @@ use Rattle.lanes.proofs.Linear.{shared-le}
 -- byte k of word z
 pub byte-of : (d : List ℕ) (z k : ℕ) → get_or (word_at d z) k 0 ≡ get_or d (8 * z + k) 0
 byte-of d z k = get_or-drop (8 * z) d k 0
+
+-- its modulation
+pub modulation-read : (d : List ℕ) (z : ℕ)
+    → modulation (word_at d z)
+    ≡ get_or d (8 * z) 0 + 256 * get_or d (8 * z + 1) 0 + 65536 * get_or d (8 * z + 2) 0 + 16777216 * get_or d (8 * z + 3) 0
+modulation-read d z =
+    let start : 8 * z + 0 ≡ 8 * z = omega arith in
+    rw (byte-of d z 0, byte-of d z 1, byte-of d z 2, byte-of d z 3, start)
 
 -- a lane holds at most 31
 abbrev lane_most : ℕ

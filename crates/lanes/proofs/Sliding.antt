@@ -1,10 +1,5 @@
 -- The window slides along a row of blocks, at either depth, and its texels are the grid's. Assumes nothing.
-use mathlib.Core.Path.{◌≡◌, refl, sym, ap, ◌∙◌}
-use mathlib.Core.Bool.{Bool}
-use mathlib.Core.List.{List}
-use Prim.Native.Nat.{ℕ, ◌+◌, ◌*◌, ◌%◌, ◌≤◌, ◌<◌}
-use native.Mathlib.Omega.{arith}
-use lib.ListN.{length}
+use Rattle.std.proofs.Common.{◌≡◌, ℕ, ◌+◌, ◌*◌, ◌%◌, ◌<◌, ◌≤◌, Bool, List, length, refl, ap, ◌∙◌, arith}
 use Rattle.facts.proofs.Numbers.{split}
 use Rattle.grid.specs.declared.Grid.{Grid}
 use Rattle.grid.specs.Grid.{half, block_width, log2, address, beside}
@@ -19,23 +14,19 @@ use Rattle.lanes.specs.declared.Block.{Block}
 use Rattle.lanes.specs.declared.Meaning.{Meaning}
 use Rattle.lanes.specs.declared.RowAddresses.{RowAddresses}
 use Rattle.lanes.specs.Block.{Said, Middle, in_block, block_of}
-use Rattle.lanes.specs.BlockRow.{Ready}
-use Rattle.lanes.specs.Column.{word_at, column_of, SmallColumn}
-use Rattle.lanes.proofs.Placing.{SeenPart, place_in, place_at, RowAt, part-seen, word-above, word-own, word_below}
+use Rattle.lanes.specs.BlockRow.{column_words, InData, Ready}
+use Rattle.lanes.specs.Column.{word_at, SmallColumn}
+use Rattle.lanes.proofs.Placing.{place_in, place_at, RowAt, part-seen, in-data, word-above, word-own, word_below}
 use Rattle.lanes.proofs.Window.{column_at, window-texel}
 
 -- v is what is read of column k = 0, 1, 2 beside block bx, round the torus, in row `by`
-module _ {M : Type 0} (stored : List ℕ → M) (Good : M → Type 0) (order : ChannelOrder) (g : Grid) (by : ℕ) (d : List ℕ) (row : RowAddresses) where
+module _ {M : Type 0} (stored : List ℕ → M) (Good : M → Type 0) (order : ChannelOrder) (g : Grid) (by : ℕ) (d : List ℕ) where
   abbrev block_in : ℕ → Block M
-  block_in x =
-      record {
-        part = address (log2 row.smaller) x 0;
-        column = column_of order d (place_in g by x 0) (place_in g by x 1) (place_in g by x 2);
-        said = stored (word_at d (place_in g by x 1));
-      }
+  block_in x = block_of stored order d (record { above = place_in g by x 0; own = place_in g by x 1; below = place_in g by x 2 })
 
   pub record SeenBlock (bx k : ℕ) (v : Block M) : Type 0 where
     pub is : v ≡ block_in (beside g.across bx k)
+    pub there : InData v.at (length d)
     pub small : SmallColumn v.column
     pub good : Good v.said
 
@@ -49,19 +40,21 @@ abbrev pub nine_about : Grid → (by : ℕ) → List ℕ → (bx : ℕ) → ℕ 
 nine_about g by d bx i j = word_at d (place_at g by bx i j)
 
 -- the code reads a column by what it adds to an address
-pub block-seen : {M : Type 0} (stored : List ℕ → M) (Good : M → Type 0) (order : ChannelOrder) (d : List ℕ) {g : Grid} {by len : ℕ} {row : RowAddresses}
-    → RowAt g by len row → (bx k : ℕ) {x : ℕ} {v : Block M} → x ≡ beside g.across bx k
-    → (v ≡ block_of stored order d row (address (log2 row.smaller) x 0)) × SmallColumn v.column × Good v.said
-    → SeenBlock stored Good order g by d row bx k v
-block-seen stored Good order d r bx k ex e =
+pub block-seen : {M : Type 0} (stored : List ℕ → M) (Good : M → Type 0) (order : ChannelOrder) (d : List ℕ) {g : Grid} {by : ℕ} {row : RowAddresses}
+    → RowAt g by (length d) row → (bx k : ℕ) {x : ℕ} {v : Block M} → x ≡ beside g.across bx k
+    → v ≡ block_of stored order d (column_words row (address (log2 row.smaller) x 0)) → SmallColumn v.column × Good v.said
+    → SeenBlock stored Good order g by d bx k v
+block-seen stored Good order d r bx k ex e good =
     let p = part-seen r bx k ex refl in
-    record { is = e.0 ∙ rw ((word-above r p).0, (word-own r p).0, (word_below r p).0, ex); small = e.1; good = e.2 }
+    record {
+      is = e ∙ rw ((word-above r p).0, (word-own r p).0, (word_below r p).0);
+      there = rw e (in-data r p);
+      small = good.0;
+      good = good.1;
+    }
 
-module _ {M : Type 0} {stored : List ℕ → M} {Good : M → Type 0} {order : ChannelOrder} {g : Grid} {by : ℕ} {d : List ℕ} {row : RowAddresses}
-    {bx k : ℕ} {v : Block M} (s : SeenBlock stored Good order g by d row bx k v) where
-  pub seen-part : SeenPart g row bx k v.part
-  seen-part = record { is = ap (λ (b : Block M). b.part) s.is }
-
+module _ {M : Type 0} {stored : List ℕ → M} {Good : M → Type 0} {order : ChannelOrder} {g : Grid} {by : ℕ} {d : List ℕ}
+    {bx k : ℕ} {v : Block M} (s : SeenBlock stored Good order g by d bx k v) where
   pub said-is : v.said ≡ stored (nine_about g by d bx k 1)
   said-is = ap (λ (b : Block M). b.said) s.is
 
@@ -69,23 +62,19 @@ module _ {M : Type 0} {stored : List ℕ → M} {Good : M → Type 0} {order : C
   column-is = ap (λ (b : Block M). b.column) s.is
 
 -- the middle column of the nine words
-pub middle : {M : Type 0} {stored : List ℕ → M} {Good : M → Type 0} {order : ChannelOrder} {g : Grid} {by len : ℕ} {d : List ℕ} {row : RowAddresses}
-    {bx : ℕ} {v : Block M} → RowAt g by len row → SeenBlock stored Good order g by d row bx 1 v → Middle (nine_about g by d bx) d row v.part
-middle {d = d} r s =
-    let p = seen-part s in
-    let at = λ (z : ℕ). word_at d z in
-    record { above = sym (ap at (word-above r p).0); own = sym (ap at (word-own r p).0); below = sym (ap at (word_below r p).0) }
+pub middle : {M : Type 0} {stored : List ℕ → M} {Good : M → Type 0} {order : ChannelOrder} {g : Grid} {by : ℕ} {d : List ℕ} {bx : ℕ} {v : Block M}
+    → SeenBlock stored Good order g by d bx 1 v → Middle (nine_about g by d bx) d v.at
+middle s = rw s.is (record { above = refl; own = refl; below = refl })
 
 -- a step of the window: the next block has it one column earlier
-module _ {M : Type 0} {stored : List ℕ → M} {Good : M → Type 0} {order : ChannelOrder} {g : Grid} {by : ℕ} {d : List ℕ} {row : RowAddresses}
-    {bx : ℕ} where
-  earlier : (k : ℕ) {v : Block M} → SeenBlock stored Good order g by d row bx (k + 1) v → SeenBlock stored Good order g by d row (bx + 1) k v
+module _ {M : Type 0} {stored : List ℕ → M} {Good : M → Type 0} {order : ChannelOrder} {g : Grid} {by : ℕ} {d : List ℕ} {bx : ℕ} where
+  earlier : (k : ℕ) {v : Block M} → SeenBlock stored Good order g by d bx (k + 1) v → SeenBlock stored Good order g by d (bx + 1) k v
   unfolding beside
   earlier k s =
-      record { is = s.is ∙ ap (λ (n : ℕ). block_in stored Good order g by d row (n % g.across)) (omega arith); small = s.small; good = s.good }
+      record { is = s.is ∙ ap (λ (n : ℕ). block_in stored Good order g by d (n % g.across)) (omega arith); there = s.there; small = s.small; good = s.good }
 
-  pub slide : {l o r : Block M} → Window stored Good order g by d row bx l o → SeenBlock stored Good order g by d row bx 2 r
-      → Window stored Good order g by d row (bx + 1) o r
+  pub slide : {l o r : Block M} → Window stored Good order g by d bx l o → SeenBlock stored Good order g by d bx 2 r
+      → Window stored Good order g by d (bx + 1) o r
   slide w next = record { left = earlier 0 w.own; own = earlier 1 next }
 
 -- a texel of a block is a texel of the grid
@@ -99,8 +88,8 @@ of-grid order g d bx by i j {two} e hi hj =
     rw (e, x.0, x.1, y.0, y.1)
 
 -- the texels of the block between three columns are the grid's, where its modulation says what the definition says
-module _ {M : Type 0} {stored : List ℕ → M} {Good : M → Type 0} {order : ChannelOrder} {g : Grid} {by bx : ℕ} {d : List ℕ} {row : RowAddresses} {l o r : Block M}
-    (w : Window stored Good order g by d row bx l o) (right : SeenBlock stored Good order g by d row bx 2 r) where
+module _ {M : Type 0} {stored : List ℕ → M} {Good : M → Type 0} {order : ChannelOrder} {g : Grid} {by bx : ℕ} {d : List ℕ} {l o r : Block M}
+    (w : Window stored Good order g by d bx l o) (right : SeenBlock stored Good order g by d bx 2 r) where
   pub texels : {h size : ℕ} {two : Bool} {says : ℕ → ℕ → Meaning} → h ≡ half two → size ≡ block_width two → g.is2bpp ≡ two
       → Said two (nine_about g by d bx) says
       → (i j : ℕ) → i < size → j < 4 → in_block h says l.column o.column r.column i j ≡ grid_texel order g d (bx * size + i) (by * 4 + j)

@@ -1,13 +1,7 @@
 -- Rows of stored weights, byte by byte of the modulation, and what filling them asks. Assumes nothing.
-use mathlib.Core.Path.{◌≡◌, refl, sym, ap, ap₂, ◌∙◌}
-use mathlib.Core.Bool.{Bool, true, false, cond}
-use mathlib.Core.List.{List, [], ◌∷◌}
-use Prim.Native.Nat.{ℕ, zero, suc, ◌+◌, ◌*◌, ◌/◌, ◌%◌, ◌-◌, ◌^◌, ◌≤◌, ◌<◌}
-use native.Mathlib.Nat.{mul-le-mul}
-use native.Mathlib.Omega.{arith}
-use lib.Dec.{T, eqb, eqb→eq}
-use lib.ListN.{get_or}
-use lib.Pow.{shr-shr, field, mod-mod-pow}
+use Rattle.std.proofs.Common.{◌≡◌, ℕ, zero, suc, ◌+◌, ◌-◌, ◌*◌, ◌/◌, ◌%◌, ◌^◌, ◌<◌, ◌≤◌, Bool, true, false, cond, T, eqb, List, [], ◌∷◌, get_or, sym, refl}
+use Rattle.std.proofs.Common.{ap, ◌∙◌, ap₂, arith, eqb→eq, shr-shr}
+use lib.Pow.{field, mod-mod-pow}
 use Rattle.facts.proofs.Finite.{below}
 use Rattle.facts.proofs.Tab.{get_or-tab}
 use Rattle.facts.specs.Bits.{is_set}
@@ -18,11 +12,10 @@ use Rattle.word.specs.Word.{modulation, mode, code, stored2bpp, weight2bpp}
 use Rattle.lanes.specs.declared.FillRule.{FillRule}
 use Rattle.lanes.specs.declared.Weights.{Weights}
 use Rattle.lanes.specs.Column.{word_at}
-use Rattle.lanes.specs.Block2bpp.{in_bytes, weight_row, weight_rows, byte_weight, byte_row, bit_row, code_row, fill_rule_of, beside_row, filled_at, filled_rows}
-use Rattle.lanes.specs.Block2bpp.{LowRow, LowRows, FewTimes, LowRule}
+use Rattle.lanes.specs.Block2bpp.{in_bytes, weight_row, weight_rows, byte_weight, byte_row, bit_row, code_row, fill_rule_of, filled_at, filled_rows}
+use Rattle.lanes.specs.Block2bpp.{LowRow, LowRows, LowRule}
 use Rattle.lanes.proofs.ByteLanes.{bytes_same, low-row}
 use Rattle.lanes.proofs.Reading.{byte-of}
-use Rattle.lanes.proofs.Texel4bpp.{mode-is}
 
 -- the code's three forms of a row
 abbrev spread_byte : Bool → ℕ → ℕ
@@ -112,14 +105,8 @@ byte-is w small (suc (suc zero)) h = omega (arith, small 0, small 1, small 2)
 byte-is w small (suc (suc (suc zero))) h = omega (arith, small 0, small 1, small 2, small 3)
 byte-is w small (suc (suc (suc (suc y)))) h = absurd (omega arith)
 
--- the first byte of word z
-first_byte : (d : List ℕ) (z : ℕ) → get_or d (8 * z) 0 ≡ get_or (word_at d z) 0 0
-first_byte d z =
-    let e : 8 * z ≡ 8 * z + 0 = omega arith in
-    ap (λ (n : ℕ). get_or d n 0) e ∙ sym (byte-of d z 0)
-
--- the rows of word z, as the code reads them: m is the byte that holds the mode
-module _ (d : List ℕ) (z : ℕ) (small : (i : ℕ) → get_or d i 0 < 256) {m : ℕ} (em : m ≡ get_or d (8 * z + 4) 0) where
+-- the rows of word z, as the code reads them
+module _ (d : List ℕ) (z : ℕ) (small : (i : ℕ) → get_or d i 0 < 256) {one : Bool} (em : one ≡ mode (word_at d z)) where
   abbrev w : List ℕ
   w = word_at d z
 
@@ -129,27 +116,28 @@ module _ (d : List ℕ) (z : ℕ) (small : (i : ℕ) → get_or d i 0 < 256) {m 
   abbrev Reads : ℕ → ℕ → Type 0
   Reads y r = (r ≡ weight_row w y) × LowRow r
 
-  row_of : (y : ℕ) {b r : ℕ} → y < 4 → b ≡ get_or w y 0 → r ≡ byte_row (eqb (m % 2) 1) y first b → Reads y r
-  row_of y h eb er =
-      let one = ap (λ (n : ℕ). eqb (n % 2) 1) (em ∙ sym (byte-of d z 4)) ∙ sym (mode-is w) in
-      let at = eb ∙ byte-is w (λ i. rw (byte-of d z i) (small (8 * z + i))) y h in
-      let e = er ∙ ap₂ (λ (t : Bool) (b : ℕ). byte_row t y first b) one at ∙ sym (row_is w y h) in
+  row_of : (y : ℕ) {at r : ℕ} → y < 4 → at ≡ 8 * z + y → r ≡ byte_row one y first (get_or d at 0) → Reads y r
+  row_of y {at} h ea er =
+      let byte : get_or d at 0 ≡ byte_of (modulation w) y =
+      ap (λ (n : ℕ). get_or d n 0) ea ∙ sym (byte-of d z y) ∙ byte-is w (λ i. rw (byte-of d z i) (small (8 * z + i))) y h in
+      let e = er ∙ ap₂ (λ (t : Bool) (b : ℕ). byte_row t y first b) em byte ∙ sym (row_is w y h) in
       (e, rw e (row_low w y h))
 
-  pub row-0 : {b r : ℕ} → b ≡ get_or d (8 * z) 0 → r ≡ byte_row (eqb (m % 2) 1) 0 false b → Reads 0 r
-  row-0 eb er = row_of 0 (omega arith) (eb ∙ first_byte d z) (er ∙ row-0-any _ first _)
+  pub row-0 : {r : ℕ} → r ≡ byte_row one 0 false (get_or d (8 * z) 0) → Reads 0 r
+  row-0 er = row_of 0 (omega arith) (omega arith) (er ∙ row-0-any _ first _)
 
-  pub row-1 : {b r : ℕ} → b ≡ get_or d (8 * z + 1) 0 → r ≡ byte_row (eqb (m % 2) 1) 1 false b → Reads 1 r
-  row-1 eb er = row_of 1 (omega arith) (eb ∙ sym (byte-of d z 1)) (er ∙ row-1-any _ first _)
+  pub row-1 : {r : ℕ} → r ≡ byte_row one 1 false (get_or d (8 * z + 1) 0) → Reads 1 r
+  row-1 er = row_of 1 (omega arith) refl (er ∙ row-1-any _ first _)
 
-  pub row-2 : {b c r : ℕ} → b ≡ get_or d (8 * z + 2) 0 → c ≡ get_or d (8 * z) 0 → r ≡ byte_row (eqb (m % 2) 1) 2 (eqb (c % 2) 1) b → Reads 2 r
-  row-2 {b} {c} eb ec er =
-      let e = ec ∙ first_byte d z in
-      let bit : c % 2 ≡ modulation w / 2 ^ 0 % 2 = omega arith in
-      row_of 2 (omega arith) (eb ∙ sym (byte-of d z 2)) (er ∙ ap (λ (n : ℕ). byte_row (eqb (m % 2) 1) 2 (eqb n 1) b) bit)
+  pub row-2 : {r : ℕ} → r ≡ byte_row one 2 (eqb (get_or d (8 * z) 0 % 2) 1) (get_or d (8 * z + 2) 0) → Reads 2 r
+  row-2 er =
+      let start : 8 * z ≡ 8 * z + 0 = omega arith in
+      let e = ap (λ (n : ℕ). get_or d n 0) start ∙ sym (byte-of d z 0) in
+      let bit : get_or d (8 * z) 0 % 2 ≡ modulation w / 2 ^ 0 % 2 = omega arith in
+      row_of 2 (omega arith) refl (er ∙ ap (λ (n : ℕ). byte_row one 2 (eqb n 1) (get_or d (8 * z + 2) 0)) bit)
 
-  pub row-3 : {b r : ℕ} → b ≡ get_or d (8 * z + 3) 0 → r ≡ byte_row (eqb (m % 2) 1) 1 false b → Reads 3 r
-  row-3 eb er = row_of 3 (omega arith) (eb ∙ sym (byte-of d z 3)) (er ∙ row-3-any _ first _)
+  pub row-3 : {r : ℕ} → r ≡ byte_row one 1 false (get_or d (8 * z + 3) 0) → Reads 3 r
+  row-3 er = row_of 3 (omega arith) refl (er ∙ row-3-any _ first _)
 
 -- the four rows
 pub rows_are : (w : List ℕ) {r0 r1 r2 r3 : ℕ} → r0 ≡ weight_row w 0 → r1 ≡ weight_row w 1 → r2 ≡ weight_row w 2 → r3 ≡ weight_row w 3
@@ -169,51 +157,32 @@ high_bit : (a b c e : ℕ) → a < 256 → b < 256 → c / 16 % 2 ≡ (a + 256 *
 high_bit a b c e ha hb = omega arith
 
 -- how a block is filled, as the code reads it
-pub rule-is : (d : List ℕ) (above own below : ℕ) → ((i : ℕ) → get_or d i 0 < 256) → {b c m u e : ℕ}
-    → b ≡ get_or d (8 * own) 0 → c ≡ get_or d (8 * own + 2) 0 → m ≡ get_or d (8 * own + 4) 0
+pub rule-is : (d : List ℕ) (above own below : ℕ) → ((i : ℕ) → get_or d i 0 < 256) → {one : Bool} {u e : ℕ} → one ≡ mode (word_at d own)
     → (u ≡ weight_row (word_at d above) 3) × LowRow u → (e ≡ weight_row (word_at d below) 0) × LowRow e
-    → let k : FillRule = record {
+    → let b = get_or d (8 * own) 0 in
+    let c = get_or d (8 * own + 2) 0 in
+    let k : FillRule = record {
       above = u;
       below = e;
-      mode = m % 2;
+      mode = one;
       beside = 1 + b % 2 - 2 * (b % 2) * (c / 16 % 2);
       upright = 1 - b % 2 + 2 * (b % 2) * (c / 16 % 2);
     } in (k ≡ fill_rule_of (word_at d above) (word_at d own) (word_at d below)) × LowRule k
 unfolding fill_rule_of
-rule-is d above own below small {b} {c} {m} eb ec em eu ee =
+rule-is d above own below small em eu ee =
     let w = word_at d own in
+    let b = get_or d (8 * own) 0 in
+    let c = get_or d (8 * own + 2) 0 in
     let low : (i : ℕ) → get_or w i 0 < 256 = λ i. rw (byte-of d own i) (small (8 * own + i)) in
-    let at-0 = eb ∙ first_byte d own in
+    let start : 8 * own ≡ 8 * own + 0 = omega arith in
+    let at-0 = ap (λ (n : ℕ). get_or d n 0) start ∙ sym (byte-of d own 0) in
     let bit : b % 2 ≡ modulation w % 2 = omega arith in
     let high : c / 16 % 2 ≡ modulation w / 1048576 % 2 =
-    ap (λ (n : ℕ). n / 16 % 2) (ec ∙ sym (byte-of d own 2)) ∙ high_bit (get_or w 0 0) (get_or w 1 0) (get_or w 2 0) (get_or w 3 0) (low 0) (low 1) in
-    let mode-at : m ≡ get_or w 4 0 = em ∙ sym (byte-of d own 4) in
+    ap (λ (n : ℕ). n / 16 % 2) (sym (byte-of d own 2)) ∙ high_bit (get_or w 0 0) (get_or w 1 0) (get_or w 2 0) (get_or w 3 0) (low 0) (low 1) in
     let times = two-bits (b % 2) (c / 16 % 2) (omega arith) (omega arith) in (
-      rw (← bit, ← high, ← mode-at, eu.0, ee.0),
-      record { above = eu.1; below = ee.1; mode = omega arith; times = record { beside = times.1; upright = times.2 } },
+      rw (← bit, ← high, ← em, eu.0, ee.0),
+      record { above = eu.1; below = ee.1; times = record { beside = times.1; upright = times.2 } },
     )
-
--- the sums of a fill fit
-pub beside-le : (l c r : ℕ) → LowRow l → LowRow c → LowRow r → beside_row l c r ≤ 0x1010101010101010
-beside-le l c r hl hc hr = total (moved hc.rest) (over hl.all) (back hc.all) hr.first
-  where
-    moved : {a : ℕ} → a ≤ 0x0008080808080808 → a * 256 ≤ 0x0808080808080800
-    moved h = omega arith
-
-    over : {a : ℕ} → a ≤ 0x0808080808080808 → a / 72057594037927936 ≤ 8
-    over h = omega arith
-
-    back : {a : ℕ} → a ≤ 0x0808080808080808 → a / 256 ≤ 0x0008080808080808
-    back h = omega arith
-
-    total : {a b c d : ℕ} → a ≤ 0x0808080808080800 → b ≤ 8 → c ≤ 0x0008080808080808 → d ≤ 8 → (a + b) + (c + d * 72057594037927936) ≤ 0x1010101010101010
-    total ha hb hc hd = omega arith
-
-pub sum_fits : (rule : FillRule) (l c r u e : ℕ) → FewTimes rule → LowRow l × LowRow c × LowRow r × LowRow u × LowRow e
-    → rule.beside * beside_row l c r + rule.upright * (u + e) + 0x0202020202020202 < 18446744073709551616
-sum_fits rule l c r u e few low =
-    let a : u + e ≤ 0x1010101010101010 = omega (arith, low.3.all, low.4.all) in
-    omega (arith, mul-le-mul few.beside (beside-le l c r low.0 low.1 low.2), mul-le-mul few.upright a)
 
 -- the four rows, as the code fills them
 pub filled-are : (l c r : Weights) (rule : FillRule) {w0 w1 w2 w3 : ℕ} → w0 ≡ filled_at l c r rule 0 → w1 ≡ filled_at l c r rule 1

@@ -1,12 +1,7 @@
 -- What a word's weights, filled, say at 2bpp is what the definition says. Assumes nothing.
-use mathlib.Core.Path.{◌≡◌, refl, sym, ap, ap₂, ◌∙◌}
-use mathlib.Core.Bool.{Bool, true, false, cond, ◌&&◌, not}
-use mathlib.Core.List.{List}
-use Prim.Native.Nat.{ℕ, zero, suc, ◌+◌, ◌*◌, ◌/◌, ◌%◌, ◌-◌, ◌^◌, ◌≤◌, ◌<◌}
-use native.Mathlib.Nat.{zero-add, zero-div}
-use native.Mathlib.Omega.{arith}
-use lib.Dec.{eqb, eqb→eq}
-use lib.ListN.{get_or}
+use Rattle.std.proofs.Common.{◌≡◌, ℕ, zero, suc, ◌+◌, ◌-◌, ◌*◌, ◌/◌, ◌%◌, ◌^◌, ◌<◌, ◌≤◌, Bool, true, false, cond, not, ◌&&◌, eqb, List, get_or, refl, ap, ◌∙◌}
+use Rattle.std.proofs.Common.{ap₂, zero-add, arith, eqb→eq}
+use native.Mathlib.Nat.{zero-div}
 use Rattle.facts.proofs.Finite.{below}
 use Rattle.facts.proofs.Tab.{get_or-tab}
 use Rattle.facts.specs.Bits.{is_set}
@@ -22,7 +17,6 @@ use Rattle.lanes.specs.Block.{Said}
 use Rattle.lanes.specs.Block2bpp.{in_bytes, weight_row, weight_rows, weight_meaning, fill_rule_of, odds, evens, filled_at, filled_rows}
 use Rattle.lanes.specs.Lanes.{bytes, clear}
 use Rattle.lanes.proofs.ByteLanes.{bytes_same, mask_of, fill_at, filled_is, byte_at}
-use Rattle.lanes.proofs.Texel4bpp.{mode-is}
 
 -- a bit as a number
 bit-cond : (n : ℕ) → n < 2 → n ≡ cond (eqb n 1) 1 0
@@ -65,9 +59,9 @@ module _ (n : Words) (x y : ℕ) where
 abbrev fills_at : Bool → ℕ → ℕ → Bool
 fills_at one y x = one && not (eqb ((x + y) % 2) 0)
 
-mask_is : (one : Bool) (y : ℕ) → y < 4 → cond one 1 0 * cond (eqb (y % 2) 0) odds evens ≡ mask_of (fills_at one y)
-mask_is true y h = eqb→eq _ _ (below (λ y. eqb (1 * cond (eqb (y % 2) 0) odds evens) (mask_of (fills_at true y))) 4 tt y h)
-mask_is false y h = eqb→eq _ _ (below (λ y. eqb (0 * cond (eqb (y % 2) 0) odds evens) (mask_of (fills_at false y))) 4 tt y h)
+mask_is : (one : Bool) (y : ℕ) → y < 4 → cond one (cond (eqb (y % 2) 0) odds evens) 0 ≡ mask_of (fills_at one y)
+mask_is true y h = eqb→eq _ _ (below (λ y. eqb (cond (eqb (y % 2) 0) odds evens) (mask_of (fills_at true y))) 4 tt y h)
+mask_is false y h = eqb→eq _ _ (below (λ y. eqb 0 (mask_of (fills_at false y))) 4 tt y h)
 
 module _ (of : ℕ → ℕ → List ℕ) where
   abbrev nine : Words
@@ -137,10 +131,6 @@ module _ (of : ℕ → ℕ → List ℕ) where
   abbrev high : Bool
   high = eqb (m / 1048576 % 2) 1
 
-  mode-bit : rule.mode ≡ cond one 1 0
-  unfolding fill_rule_of
-  mode-bit = bit-cond (get_or own 4 0 % 2) (omega arith) ∙ ap (λ (t : Bool). cond t 1 0) (sym (mode-is own))
-
   beside-is : rule.beside ≡ beside bit high
   unfolding fill_rule_of
   beside-is = ap₂ (λ (b h : ℕ). 1 + b - 2 * b * h) (bit-cond (m % 2) (omega arith)) (bit-cond (m / 1048576 % 2) (omega arith))
@@ -172,7 +162,7 @@ module _ (of : ℕ → ℕ → List ℕ) where
       )
       (filled_is rule (fills_at one y) (here y) (over y) (under y) (rw (beside-is, upright-is) (counts bit high))
       (λ i. near-low i (y + 4)) (λ i. near-low (8 + i) (y + 3)) (λ i. near-low (8 + i) (y + 5))
-      (ap (λ (n : ℕ). n * cond (eqb (y % 2) 0) odds evens) mode-bit ∙ mask_is one y h))
+      (mask_is one y h))
 
   -- in mode 1 a texel that is filled holds no weight of its own
   empty : (x y : ℕ) → x < 8 → y < 4 → one ≡ true → eqb ((x + y) % 2) 0 ≡ false → near 4 nine (x + 8) (y + 4) ≡ 0

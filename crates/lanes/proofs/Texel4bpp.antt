@@ -1,36 +1,20 @@
 -- What a word's codes say at 4bpp is what the definition says. Assumes nothing.
-use mathlib.Core.Path.{◌≡◌, refl, sym, ap, ◌∙◌}
-use mathlib.Core.Bool.{Bool, true, false, cond, ◌&&◌}
-use mathlib.Core.List.{List}
-use Prim.Native.Nat.{ℕ, ◌+◌, ◌*◌, ◌/◌, ◌%◌, ◌^◌}
-use native.Mathlib.Omega.{arith}
-use lib.Dec.{eqb}
-use lib.ListN.{get_or}
-use lib.Pow.{shr-shr}
-use borrow.Author.Tests.{eq-eqb, ne_eqb}
+use Rattle.std.proofs.Common.{◌≡◌, ℕ, ◌+◌, ◌*◌, ◌/◌, ◌%◌, ◌^◌, Bool, true, false, cond, ◌&&◌, eqb, List, sym, refl, ap, ◌∙◌, arith, shr-shr, eq-eqb, ne_eqb}
 use Rattle.texel.specs.Texel.{Words, near, filled, rule_at, punched}
 use Rattle.texel.proofs.Range.{words}
 use Rattle.word.proofs.Bounds.{weights-4, punch-bit, never-filled}
 use Rattle.word.specs.declared.Fill.{Fill}
 use Rattle.word.specs.declared.Fill.TheVariants.{Nothing}
 use Rattle.word.specs.Word.{modulation, mode, code, standard_weight, punch_through_weight, weight4bpp, punch4bpp}
-use Rattle.lanes.specs.Column.{word_at}
 use Rattle.lanes.specs.Block.{Said}
 use Rattle.lanes.specs.Block4bpp.{codes_of, codes_at, code_meaning}
 use Rattle.lanes.specs.Lanes.{bytes, clear}
-use Rattle.lanes.proofs.Reading.{byte-of}
 
 -- the code of texel (x, y), by its row
 code_at : (m x y : ℕ) → code (m / 2 ^ (8 * y)) x ≡ code m (4 * y + x)
 code_at m x y =
     let e : 8 * y + 2 * x ≡ 2 * (4 * y + x) = omega arith in
     ap (λ (n : ℕ). n % 4) (shr-shr m (8 * y) (2 * x) ∙ ap (λ (n : ℕ). m / 2 ^ n) e)
-
--- the mode is the low bit of byte 4
-pub mode-is : (w : List ℕ) → mode w ≡ eqb (get_or w 4 0 % 2) 1
-mode-is w =
-    let e : (get_or w 4 0 + 256 * get_or w 5 0) / 2 ^ 0 % 2 ≡ get_or w 4 0 % 2 = omega arith in
-    ap (λ (n : ℕ). eqb n 1) e
 
 -- a bit that is 1 where t holds
 bit_is : (t : Bool) (n : ℕ) → n ≡ cond t 1 0 → eqb n 1 ≡ t
@@ -74,13 +58,3 @@ is_said of x y hx hy = (weight, keep)
     keep =
         ap (λ (c : ℕ). cond (mode own && eqb c 2) clear bytes) (code_at (modulation own) x y)
         ∙ ap (λ (t : Bool). cond t clear bytes) (sym (bit_is (punch4bpp (mode own) (modulation own) i) _ (punch-bit own i (omega arith))))
-
--- the codes, as the code reads them
-module _ (d : List ℕ) (z : ℕ) {b0 b1 b2 b3 b4 : ℕ} where
-  pub codes-are : b0 ≡ get_or d (8 * z) 0 → b1 ≡ get_or d (8 * z + 1) 0 → b2 ≡ get_or d (8 * z + 2) 0 → b3 ≡ get_or d (8 * z + 3) 0
-      → b4 ≡ get_or d (8 * z + 4) 0
-      → record { modulation = b0 + 256 * b1 + 65536 * b2 + 16777216 * b3; punches = eqb (b4 % 2) 1 } ≡ codes_of (word_at d z)
-  unfolding codes_of
-  codes-are e0 e1 e2 e3 e4 =
-      let first : 8 * z + 0 ≡ 8 * z = omega arith in
-      rw (mode-is (word_at d z), byte-of d z 0, byte-of d z 1, byte-of d z 2, byte-of d z 3, byte-of d z 4, first, e0, e1, e2, e3, e4)

@@ -1,10 +1,5 @@
 -- A window of three columns gives the sums of the nine words, at either depth. Assumes nothing.
-use mathlib.Core.Path.{◌≡◌, sym, ap, ◌∙◌}
-use mathlib.Core.Bool.{Bool, true, false}
-use mathlib.Core.List.{List}
-use Prim.Native.Nat.{ℕ, ◌+◌, ◌*◌, ◌<◌}
-use native.Mathlib.Omega.{arith}
-use lib.ListN.{get_or}
+use Rattle.std.proofs.Common.{◌≡◌, ℕ, ◌+◌, ◌*◌, ◌<◌, Bool, true, false, List, get_or, sym, ap, ◌∙◌, arith}
 use Rattle.facts.proofs.Tab.{get_or-tab}
 use Rattle.grid.specs.Grid.{half, block_width}
 use Rattle.pixel.specs.Pixel.{packed}

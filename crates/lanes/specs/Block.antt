@@ -5,10 +5,10 @@ use Rattle.grid.specs.Grid.{half, block_width}
 use Rattle.pixel.specs.declared.ChannelOrder.{ChannelOrder}
 use Rattle.texel.specs.Texel.{Words, filled, rule_at, punched}
 use Rattle.word.specs.Word.{word_of}
+use Rattle.lanes.specs.declared.Addresses.{Addresses}
 use Rattle.lanes.specs.declared.Block.{Block}
 use Rattle.lanes.specs.declared.Column.{Column}
 use Rattle.lanes.specs.declared.Meaning.{Meaning}
-use Rattle.lanes.specs.declared.RowAddresses.{RowAddresses}
 use Rattle.lanes.specs.declared.Sums.{Sums}
 use Rattle.lanes.specs.Column.{word_at, column_of, sums_at, across}
 use Rattle.lanes.specs.Lanes.{bytes, clear, texel_lanes}
@@ -21,14 +21,9 @@ in_row h says a b x = texel_lanes h (across h a x) (across h b x) (says x).weigh
 abbrev pub in_block : (h : ℕ) → (says : ℕ → ℕ → Meaning) → (left own right : Column) → ℕ → ℕ → ℕ
 in_block h says left own right x y = in_row h (says y) (sums_at left.a own.a right.a y) (sums_at left.b own.b right.b y) x
 
--- The column that adds `part` to an address, and what is stored in its own word.
-abbrev pub block_of : {M : Type 0} → (List ℕ → M) → ChannelOrder → List ℕ → RowAddresses → ℕ → Block M
-block_of stored order d row part =
-    record {
-      part = part;
-      column = column_of order d (part + row.above) (part + row.own) (part + row.below);
-      said = stored (word_at d (part + row.own));
-    }
+-- The column of three words, and what is stored in its own one.
+abbrev pub block_of : {M : Type 0} → (List ℕ → M) → ChannelOrder → List ℕ → Addresses → Block M
+block_of stored order d at = record { at = at; column = column_of order d at.above at.own at.below; said = stored (word_at d at.own) }
 
 -- `says` says of each texel of the middle one of nine words what the definition says: the weight of colour B, and whether it is punched through.
 abbrev pub Said : (two : Bool) → (of : ℕ → ℕ → List ℕ) → (says : ℕ → ℕ → Meaning) → Type 0
@@ -38,8 +33,8 @@ Said two of says =
     → ((says y x).weight ≡ filled (half two) (rule_at (nine 1 1) x y) nine (x + block_width two) (y + 4))
     × ((says y x).keep ≡ cond (punched (half two) (nine 1 1) x y) clear bytes)
 
--- The middle column of nine words is the one that adds `part` to an address.
-pub record Middle (of : ℕ → ℕ → List ℕ) (d : List ℕ) (row : RowAddresses) (part : ℕ) : Type 0 where
-  pub above : of 1 0 ≡ word_at d (part + row.above)
-  pub own : of 1 1 ≡ word_at d (part + row.own)
-  pub below : of 1 2 ≡ word_at d (part + row.below)
+-- Of nine words these are the middle column's.
+pub record Middle (of : ℕ → ℕ → List ℕ) (d : List ℕ) (at : Addresses) : Type 0 where
+  pub above : of 1 0 ≡ word_at d at.above
+  pub own : of 1 1 ≡ word_at d at.own
+  pub below : of 1 2 ≡ word_at d at.below

@@ -3,7 +3,7 @@ use Rattle.std.specs.Prelude.{Bool, true, cond, ◌&&◌, ◌||◌, List, [], �
 use Rattle.std.specs.Int.Bits.{bit_and}
 use Rattle.facts.specs.Bits.{is_set}
 use Rattle.facts.specs.Tab.{tab}
-use Rattle.word.specs.Word.{modulation, code, standard_weight, holds_code, adjusted, word_of}
+use Rattle.word.specs.Word.{modulation, mode, code, standard_weight, holds_code, adjusted, word_of}
 use Rattle.lanes.specs.declared.FillRule.{FillRule}
 use Rattle.lanes.specs.declared.Meaning.{Meaning}
 use Rattle.lanes.specs.declared.Weights.{Weights}
@@ -55,7 +55,7 @@ fill_rule_of above own below =
     record {
       above = weight_row above 3;
       below = weight_row below 0;
-      mode = get_or own 4 0 % 2;
+      mode = mode own;
       beside = 1 + bit - 2 * bit * high;
       upright = 1 - bit + 2 * bit * high;
     }
@@ -80,7 +80,7 @@ evens = 0x000f000f000f000f
 -- Row y of a block's weights, filled, from the stored rows of the three blocks.
 abbrev pub filled_at : (left own right : Weights) → FillRule → ℕ → ℕ
 filled_at left own right rule y =
-    filled_row rule (rule.mode * cond (eqb (y % 2) 0) odds evens) (get_or left.rows y 0) (get_or own.rows y 0) (get_or right.rows y 0)
+    filled_row rule (cond rule.mode (cond (eqb (y % 2) 0) odds evens) 0) (get_or left.rows y 0) (get_or own.rows y 0) (get_or right.rows y 0)
     (cond (eqb y 0) rule.above (get_or own.rows (y - 1) 0)) (cond (eqb y 3) rule.below (get_or own.rows (y + 1) 0))
 
 -- The four rows of them.
@@ -106,9 +106,8 @@ pub record FewTimes (rule : FillRule) : Type 0 where
   pub beside : rule.beside ≤ 2
   pub upright : rule.upright ≤ 2
 
--- A rule with such rows over the edges, a mode, and such counts.
+-- A rule with such rows over the edges, and such counts.
 pub record LowRule (rule : FillRule) : Type 0 where
   pub above : LowRow rule.above
   pub below : LowRow rule.below
-  pub mode : rule.mode ≤ 1
   pub times : FewTimes rule

@@ -7,6 +7,7 @@ use Rattle.paint.specs.declared.Sheet.{Sheet}
 use Rattle.paint.specs.Sheet.{on_sheet, Fits}
 use Rattle.pixel.specs.declared.ChannelOrder.{ChannelOrder}
 use Rattle.texel.specs.Texel.{grid_texel}
+use Rattle.lanes.specs.declared.Addresses.{Addresses}
 use Rattle.lanes.specs.declared.RowAddresses.{RowAddresses}
 
 -- The smaller side of a grid, and what its rows above, own and below row `by` add to an address.
@@ -20,11 +21,15 @@ addresses_of g by =
       below = address (log2 m) 0 (beside g.down by 2);
     }
 
--- The words above, own and below of a column that adds `part` to an address stand in a run of `len` bytes.
-pub record InColumn (row : RowAddresses) (part len : ℕ) : Type 0 where
-  pub above : 8 * (part + row.above) + 8 ≤ len
-  pub own : 8 * (part + row.own) + 8 ≤ len
-  pub below : 8 * (part + row.below) + 8 ≤ len
+-- The words of a column that adds `part` to an address.
+abbrev pub column_words : RowAddresses → (part : ℕ) → Addresses
+column_words row part = record { above = part + row.above; own = part + row.own; below = part + row.below }
+
+-- Three words stand in a run of `len` bytes.
+pub record InData (at : Addresses) (len : ℕ) : Type 0 where
+  pub above : 8 * at.above + 8 ≤ len
+  pub own : 8 * at.own + 8 ≤ len
+  pub below : 8 * at.below + 8 ≤ len
 
 -- Row `by` of a grid and its sheet are ready to be laid: the grid's words stand in `len` bytes and it has such a row; it has the blocks
 -- that cover the sheet, and maybe more; the sheet has four rows at most, and its words are `room` lent ones.

@@ -3,12 +3,10 @@ ghost use Rattle.std.specs.Prelude.{false, ◌≡◌, ◌+◌, ◌*◌, ◌<◌,
 ghost use Rattle.lanes.specs.Block4bpp.{codes_of, codes_at, code_meaning};
 ghost use Rattle.std.proofs.Common.{refl};
 
-use crate::colors::byte;
-use crate::modulation::Modulation;
-use crate::{Codes, Meaning, RowAddresses};
+use crate::modulation::{KEPT, Modulation, mode_at};
+use crate::{Addresses, Codes, Meaning};
 
-const KEPT: u64 = 0x00ff00ff00ff00ff;
-
+// Of a texel that is punched through alpha is cleared.
 const CLEAR: u64 = 0x000000ff00ff00ff;
 
 // What codes 0 to 3 mean in mode 0, and in mode 1.
@@ -71,29 +69,20 @@ impl Modulation for Codes {
     fn read(d: &[u8], z: usize) -> Codes {
         let at = 8 * z;
         Codes {
-            modulation: byte(d, at)
-                + 256 * byte(d, at + 1)
-                + 65536 * byte(d, at + 2)
-                + 16777216 * byte(d, at + 3),
-            punches: byte(d, at + 4) % 2 == 1,
+            modulation: u32::from_le_bytes([d[at], d[at + 1], d[at + 2], d[at + 3]]) as u64,
+            punches: mode_at(d, z),
         }
     }
 
-    fn fill(
-        _left: Codes,
-        own: Codes,
-        _right: Codes,
-        _d: &[u8],
-        _row: RowAddresses,
-        _part: usize,
-    ) -> Codes {
+    // At 4bpp nothing is filled.
+    fn fill(_left: Codes, own: Codes, _right: Codes, _d: &[u8], _at: Addresses) -> Codes {
         own
     }
 
     fn row(self, j: usize) -> Codes {
         Codes {
             modulation: self.modulation >> (8 * j),
-            punches: self.punches,
+            ..self
         }
     }
 

@@ -3,9 +3,10 @@ ghost use Rattle.std.specs.Prelude.{cond, ◌≡◌, ◌+◌, ◌*◌, ◌/◌, 
 ghost use Rattle.word.specs.Word.{color_of, blue_a, blue_b};
 ghost use Rattle.lanes.specs.Lanes.{bytes, channel_lanes, color_lanes, widened, spread_of, fitted, mixed_lanes, shared, Mask};
 ghost use Rattle.facts.specs.Tab.{tab};
+ghost use Rattle.lanes.specs.BlockRow.{InData};
 ghost use Rattle.lanes.specs.Column.{lanes_a, lanes_b, column_of, across, SmallColumn, SmallSums};
 
-use crate::{Column, Sums};
+use crate::{Addresses, ColorLanes, Column, Sums};
 use pixel::ChannelOrder;
 
 const ONES: u64 = 0x0001000100010001;
@@ -33,10 +34,10 @@ pub fn mix(a: u64, b: u64, w: u64, keep: u64) -> u32
 }
 
 // By a bit, the one or the other. Compiled it is no branch, which no one could foresee from such bits.
-pub fn pick(bit: u64, set: u64, clear: u64) -> u64
-    ensures { result ≡ cond (eqb bit 1) set clear }
+pub fn pick(bit: bool, set: u64, clear: u64) -> u64
+    ensures { result ≡ cond bit set clear }
 {
-    if bit == 1 { set } else { clear }
+    if bit { set } else { clear }
 }
 
 // Fields of four bits, five bits apart, each followed by its top bit.
@@ -67,14 +68,14 @@ fn in_lanes(fields: u64, alpha: u64, order: ChannelOrder) -> u64
     apart + 4294967296 * (fields / 32 % 32) + 281474976710656 * alpha
 }
 
-// The lanes of colour A, and of B, where these are the bits c.
-fn lane_a(c: u64, order: ChannelOrder) -> u64
-    requires { c < 65536 }
+// The lanes of colour A, and of B, where these are the bits c. No twins: what they read of blue differs, and is most of either.
+fn lane_a(c: u16, order: ChannelOrder) -> u64
     ensures { result ≡ color_lanes order (color_of c (blue_a c)) }
 {
+    let c = c as u64;
     let x = c % 32768 / 2 * 2 + c / 16 % 2;
     let y = widen(32 * (c / 16 % 16) + 1024 * (c / 256 % 16)) + (c / 2 % 8 * 4 + c / 4 % 4);
-    let opaque = c / 32768 % 2;
+    let opaque = c / 32768 % 2 == 1;
     in_lanes(
         pick(opaque, x, y),
         pick(opaque, 30, c / 4096 % 8 * 4),
@@ -82,12 +83,12 @@ fn lane_a(c: u64, order: ChannelOrder) -> u64
     )
 }
 
-fn lane_b(c: u64, order: ChannelOrder) -> u64
-    requires { c < 65536 }
+fn lane_b(c: u16, order: ChannelOrder) -> u64
     ensures { result ≡ color_lanes order (color_of c (blue_b c)) }
 {
+    let c = c as u64;
     let y = widen(c % 16 + 32 * (c / 16 % 16) + 1024 * (c / 256 % 16));
-    let opaque = c / 32768 % 2;
+    let opaque = c / 32768 % 2 == 1;
     in_lanes(
         pick(opaque, c % 32768, y),
         pick(opaque, 30, c / 4096 % 8 * 4),
@@ -95,34 +96,23 @@ fn lane_b(c: u64, order: ChannelOrder) -> u64
     )
 }
 
-pub fn byte(d: &[u8], at: usize) -> u64
-    requires { at < length d.now }
-    ensures { (result ≡ get_or d.now at 0) × (result < 256) }
-{
-    d[at] as u64
-}
-
-// Two bytes, little-endian.
-fn half(d: &[u8], at: usize) -> u64
+fn half(d: &[u8], at: usize) -> u16
     requires { at + 2 ≤ length d.now }
-    ensures { (result ≡ get_or d.now at 0 + 256 * get_or d.now (at + 1) 0) × (result < 65536) }
+    ensures { result ≡ get_or d.now at 0 + 256 * get_or d.now (at + 1) 0 }
 {
-    byte(d, at) + 256 * byte(d, at + 1)
+    u16::from_le_bytes([d[at], d[at + 1]])
 }
 
-// Colour A, and B, of word z.
-fn word_a(d: &[u8], z: usize, order: ChannelOrder) -> u64
+// Both colours of word z.
+fn colors_at(d: &[u8], z: usize, order: ChannelOrder) -> ColorLanes
     requires { 8 * z + 8 ≤ length d.now }
-    ensures { (result ≡ lanes_a order d.now z) × (result ≤ 8725724278030336) }
+    ensures is { (result.a ≡ lanes_a order d.now z) × (result.b ≡ lanes_b order d.now z) }
+    ensures small { (result.a ≤ 8725724278030336) × (result.b ≤ 8725724278030336) }
 {
-    lane_a(half(d, 8 * z + 4), order)
-}
-
-fn word_b(d: &[u8], z: usize, order: ChannelOrder) -> u64
-    requires { 8 * z + 8 ≤ length d.now }
-    ensures { (result ≡ lanes_b order d.now z) × (result ≤ 8725724278030336) }
-{
-    lane_b(half(d, 8 * z + 6), order)
+    ColorLanes {
+        a: lane_a(half(d, 8 * z + 4), order),
+        b: lane_b(half(d, 8 * z + 6), order),
+    }
 }
 
 // Rows 0 to 3 of a block, in one colour, of the words above it, its own and below it.
@@ -138,22 +128,17 @@ fn downwards(above: u64, own: u64, below: u64) -> [u64; 4]
     ]
 }
 
-// The column of the words at the addresses above a block, its own and below it.
-pub fn summed(d: &[u8], above: usize, own: usize, below: usize, order: ChannelOrder) -> Column
-    requires { (8 * above + 8 ≤ length d.now) × (8 * own + 8 ≤ length d.now) × (8 * below + 8 ≤ length d.now) }
-    ensures { (result ≡ column_of order d.now above own below) × SmallColumn result }
+// A column's three words, summed.
+pub fn summed(d: &[u8], at: Addresses, order: ChannelOrder) -> Column
+    requires { InData at (length d.now) }
+    ensures { (result ≡ column_of order d.now at.above at.own at.below) × SmallColumn result }
 {
+    let above = colors_at(d, at.above, order);
+    let own = colors_at(d, at.own, order);
+    let below = colors_at(d, at.below, order);
     Column {
-        a: downwards(
-            word_a(d, above, order),
-            word_a(d, own, order),
-            word_a(d, below, order),
-        ),
-        b: downwards(
-            word_b(d, above, order),
-            word_b(d, own, order),
-            word_b(d, below, order),
-        ),
+        a: downwards(above.a, own.a, below.a),
+        b: downwards(above.b, own.b, below.b),
     }
 }
 

@@ -1,73 +1,68 @@
 // Rows of weights at 2bpp, as they are stored and as they are filled.
 ghost use Rattle.std.specs.Prelude.{true, false, cond, ◌≡◌, ◌+◌, ◌*◌, ◌/◌, ◌<◌, ◌≤◌, eqb, length, get_or};
 ghost use Rattle.lanes.specs.Column.{word_at};
+ghost use Rattle.lanes.specs.BlockRow.{InData};
 ghost use Rattle.lanes.specs.Block2bpp.{bit_row, code_row, byte_row, weight_row, weight_rows, fill_rule_of, filled_row, filled_rows, LowRow, LowRows};
-ghost use Rattle.lanes.specs.Block2bpp.{FewTimes, LowRule};
-ghost use Rattle.lanes.specs.Block2bpp.{weight_meaning};
+ghost use Rattle.lanes.specs.Block2bpp.{weight_meaning, FewTimes, LowRule};
 ghost use Rattle.std.proofs.Common.{refl};
 
-use crate::colors::{byte, pick};
-use crate::modulation::Modulation;
-use crate::{FillRule, Meaning, RowAddresses, Weights};
+use crate::colors::pick;
+use crate::modulation::{KEPT, Modulation, mode_at};
+use crate::{Addresses, FillRule, Meaning, Weights};
 
 // A byte's bits as weights of 0 and 8.
-fn bits_row(b: u64) -> u64
-    requires { b < 256 }
+fn bits_row(b: u8) -> u64
     ensures { (result ≡ bit_row b) × (result ≤ 0x0808080808080808) }
 {
-    ((b * 0x0101010101010101 & 0x8040201008040201) + 0x00406070787c7e7f) / 16 & 0x0808080808080808
+    ((b as u64 * 0x0101010101010101 & 0x8040201008040201) + 0x00406070787c7e7f) / 16
+        & 0x0808080808080808
 }
 
 // A byte's codes as weights, at every other place.
-fn codes_row(b: u64) -> u64
-    requires { b < 256 }
+fn codes_row(b: u8) -> u64
     ensures { (result ≡ code_row b) × (result ≤ 0x0008000800080008) }
 {
-    let v = b * 0x0000040010004001;
+    let v = b as u64 * 0x0000040010004001;
     3 * (v & 0x0001000100010001) + 5 * ((v & 0x0002000200020002) / 2)
 }
 
-// By the mode, the one or the other.
-fn spread_row(b: u64, mode: u64) -> u64
-    requires { (b < 256) × (mode < 2) }
-    ensures { (result ≡ cond (eqb mode 1) (code_row b) (bit_row b)) × (result ≤ 0x0808080808080808) }
+// In mode 1 the one, else the other.
+fn spread_row(b: u8, mode: bool) -> u64
+    ensures { (result ≡ cond mode (code_row b) (bit_row b)) × (result ≤ 0x0808080808080808) }
 {
     pick(mode, codes_row(b), bits_row(b))
 }
 
 // A weight that gives up a bit of its code. 0 and 8 stay as they are.
-fn adjust(x: u64, bit: u64) -> u64
+fn adjust(x: u64) -> u64
     requires { x < 256 }
-    ensures { (result ≡ cond (eqb bit 1) ((x + 3) / 8 * 8) x) × (result ≤ 256) }
+    ensures { (result ≡ (x + 3) / 8 * 8) × (result ≤ 256) }
 {
-    if bit == 1 { (x + 3) / 8 * 8 } else { x }
+    (x + 3) / 8 * 8
 }
 
 // Row 0 of a word: its first weight gives up a bit.
-fn first_row(b: u64, mode: u64) -> u64
-    requires { (b < 256) × (mode < 2) }
-    ensures { result ≡ byte_row (eqb mode 1) 0 false b }
+fn first_row(b: u8, mode: bool) -> u64
+    ensures { result ≡ byte_row mode 0 false b }
 {
     let v = spread_row(b, mode);
-    v / 256 * 256 + (v % 256 + 3) / 8 * 8
+    v / 256 * 256 + adjust(v % 256)
 }
 
 // Rows 1 and 3.
-fn odd_row(b: u64, mode: u64) -> u64
-    requires { (b < 256) × (mode < 2) }
-    ensures { result ≡ byte_row (eqb mode 1) 1 false b }
+fn odd_row(b: u8, mode: bool) -> u64
+    ensures { result ≡ byte_row mode 1 false b }
 {
     pick(mode, codes_row(b) * 256, bits_row(b))
 }
 
 // Row 2: its fifth weight gives up a bit where the modulation's bit 0 is set.
-fn third_row(b: u64, mode: u64, bit: u64) -> u64
-    requires { (b < 256) × (mode < 2) }
-    ensures { result ≡ byte_row (eqb mode 1) 2 (eqb bit 1) b }
+fn third_row(b: u8, mode: bool, bit: bool) -> u64
+    ensures { result ≡ byte_row mode 2 bit b }
 {
     let v = spread_row(b, mode);
     let x = v / 4294967296 % 256;
-    v - x * 4294967296 + adjust(x, bit) * 4294967296
+    v - x * 4294967296 + pick(bit, adjust(x), x) * 4294967296
 }
 
 // The four rows of word z.
@@ -76,46 +71,30 @@ fn read_rows(d: &[u8], z: usize) -> Weights
     ensures { (result ≡ weight_rows (word_at d.now z)) × LowRows result }
 {
     let at = 8 * z;
-    let mode = byte(d, at + 4) % 2;
-    let first = byte(d, at);
+    let mode = mode_at(d, z);
     Weights {
         rows: [
-            first_row(first, mode),
-            odd_row(byte(d, at + 1), mode),
-            third_row(byte(d, at + 2), mode, first % 2),
-            odd_row(byte(d, at + 3), mode),
+            first_row(d[at], mode),
+            odd_row(d[at + 1], mode),
+            third_row(d[at + 2], mode, d[at] % 2 == 1),
+            odd_row(d[at + 3], mode),
         ],
     }
 }
 
-// Row 3 of word z, and row 0: what a neighbour below, and above, reads over the edge.
-fn lower_edge(d: &[u8], z: usize) -> u64
-    requires { 8 * z + 8 ≤ length d.now }
-    ensures { (result ≡ weight_row (word_at d.now z) 3) × LowRow result }
+// How the block of a column's own word is filled, by its three words: of the outer two it reads the rows over the edges, row 3 of the word above
+// and row 0 of the word below.
+fn read_rule(d: &[u8], at: Addresses) -> FillRule
+    requires { InData at (length d.now) }
+    ensures { (result ≡ fill_rule_of (word_at d.now at.above) (word_at d.now at.own) (word_at d.now at.below)) × LowRule result }
 {
-    let mode = byte(d, 8 * z + 4) % 2;
-    odd_row(byte(d, 8 * z + 3), mode)
-}
-
-fn upper_edge(d: &[u8], z: usize) -> u64
-    requires { 8 * z + 8 ≤ length d.now }
-    ensures { (result ≡ weight_row (word_at d.now z) 0) × LowRow result }
-{
-    let mode = byte(d, 8 * z + 4) % 2;
-    first_row(byte(d, 8 * z), mode)
-}
-
-// How the block of the word `own` is filled, by its own word and those above and below it.
-fn read_rule(d: &[u8], above: usize, own: usize, below: usize) -> FillRule
-    requires { (8 * above + 8 ≤ length d.now) × (8 * own + 8 ≤ length d.now) × (8 * below + 8 ≤ length d.now) }
-    ensures { (result ≡ fill_rule_of (word_at d.now above) (word_at d.now own) (word_at d.now below)) × LowRule result }
-{
-    let bit = byte(d, 8 * own) % 2;
-    let high = byte(d, 8 * own + 2) / 16 % 2;
+    let own = 8 * at.own;
+    let bit = (d[own] % 2) as u64;
+    let high = (d[own + 2] / 16 % 2) as u64;
     FillRule {
-        above: lower_edge(d, above),
-        below: upper_edge(d, below),
-        mode: byte(d, 8 * own + 4) % 2,
+        above: odd_row(d[8 * at.above + 3], mode_at(d, at.above)),
+        below: first_row(d[8 * at.below], mode_at(d, at.below)),
+        mode: mode_at(d, at.own),
         beside: 1 + bit - 2 * bit * high,
         upright: 1 - bit + 2 * bit * high,
     }
@@ -149,8 +128,8 @@ fn fill_rows(left: Weights, own: Weights, right: Weights, rule: FillRule) -> Wei
     requires { LowRows left × LowRows own × LowRows right × LowRule rule }
     ensures { result ≡ filled_rows left own right rule }
 {
-    let odds = rule.mode * ODDS;
-    let evens = rule.mode * EVENS;
+    let odds = pick(rule.mode, ODDS, 0);
+    let evens = pick(rule.mode, EVENS, 0);
     let l = left.rows;
     let o = own.rows;
     let r = right.rows;
@@ -185,16 +164,8 @@ impl Modulation for Weights {
         read_rows(d, z)
     }
 
-    fn fill(
-        left: Weights,
-        own: Weights,
-        right: Weights,
-        d: &[u8],
-        row: RowAddresses,
-        part: usize,
-    ) -> Weights {
-        let rule = read_rule(d, part + row.above, part + row.own, part + row.below);
-        fill_rows(left, own, right, rule)
+    fn fill(left: Weights, own: Weights, right: Weights, d: &[u8], at: Addresses) -> Weights {
+        fill_rows(left, own, right, read_rule(d, at))
     }
 
     fn row(self, j: usize) -> u64 {
@@ -204,7 +175,7 @@ impl Modulation for Weights {
     fn meaning(row: u64, i: usize) -> Meaning {
         Meaning {
             weight: (row >> (8 * i)) % 16,
-            keep: 0x00ff00ff00ff00ff,
+            keep: KEPT,
         }
     }
 

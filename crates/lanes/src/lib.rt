@@ -16,7 +16,15 @@ use grid::Grid;
 use paint::Sheet;
 use pixel::ChannelOrder;
 
-// Three words of a column, the one above a block, its own and the one below, summed for rows 0 to 3 of the block: colour A and colour B.
+// The two colours of a word, as lanes.
+#[derive(Clone, Copy)]
+pub struct ColorLanes {
+    pub a: u64,
+    pub b: u64,
+}
+
+// Three words of a column, the one above a block, its own and the one below, summed for rows 0 to 3 of the block: colour A and colour B. That its
+// numbers are small (`SmallColumn`) is no field of it: `column_of` makes columns in specs/, which may not name the lemma. So it is with `Weights`.
 #[derive(Clone, Copy)]
 pub struct Column {
     pub a: [u64; 4],
@@ -24,7 +32,7 @@ pub struct Column {
 }
 
 // One row of three columns, the one before a block, its own and the next one, in one colour.
-#[derive(Clone, Copy, Debug, PartialEq, Eq)]
+#[derive(Clone, Copy)]
 pub struct Sums {
     pub left: u64,
     pub own: u64,
@@ -40,23 +48,31 @@ pub struct RowAddresses {
     pub below: usize,
 }
 
+// The addresses of a column's three words: above a block, its own and below it.
+#[derive(Clone, Copy)]
+pub struct Addresses {
+    pub above: usize,
+    pub own: usize,
+    pub below: usize,
+}
+
 // What a word's modulation says of a texel: the weight of colour B, and what is kept of the blend.
-#[derive(Clone, Copy, Debug, PartialEq, Eq)]
+#[derive(Clone, Copy)]
 pub struct Meaning {
     pub weight: u64,
     pub keep: u64,
 }
 
-// A column, what it adds to an address, and what the modulation of its own word says.
+// A column: where its words stand, their colours summed, and what the modulation of its own word says.
 #[derive(Clone, Copy)]
 pub struct Block<M> {
-    pub part: usize,
+    pub at: Addresses,
     pub column: Column,
     pub said: M,
 }
 
 // A word's codes at 4bpp, and whether its mode is 1.
-#[derive(Clone, Copy, Debug, PartialEq, Eq)]
+#[derive(Clone, Copy)]
 pub struct Codes {
     pub modulation: u64,
     pub punches: bool,
@@ -68,13 +84,13 @@ pub struct Weights {
     pub rows: [u64; 4],
 }
 
-// How a block is filled: the rows of weights over its upper and lower edge, its mode, and how often the weights beside a texel count,
-// and those above and below it.
+// How a block is filled: the rows of weights over its upper and lower edge, whether its mode is 1, and how often the weights beside a texel
+// count, and those above and below it.
 #[derive(Clone, Copy)]
 pub struct FillRule {
     pub above: u64,
     pub below: u64,
-    pub mode: u64,
+    pub mode: bool,
     pub beside: u64,
     pub upright: u64,
 }

@@ -2,13 +2,10 @@
 ghost use Rattle.std.specs.Prelude.{◌≡◌, ◌+◌, ◌*◌, ◌<◌, length};
 ghost use Rattle.grid.specs.Grid.{log2, address, beside, spread_bits, Placed};
 ghost use Rattle.grid.specs.Words.{word_bytes, Stands};
-ghost use Rattle.lanes.specs.Column.{column_of, SmallColumn};
-ghost use Rattle.lanes.specs.BlockRow.{addresses_of, InColumn};
+ghost use Rattle.lanes.specs.BlockRow.{addresses_of};
 
-use crate::colors::summed;
-use crate::{Column, RowAddresses};
+use crate::RowAddresses;
 use grid::Grid;
-use pixel::ChannelOrder;
 
 // The eight bits of b, bit i moved to bit 2i.
 fn spread_byte(b: usize) -> usize
@@ -50,25 +47,11 @@ pub fn row_addresses(g: Grid, by: usize) -> RowAddresses
     requires { Stands g (word_bytes g) × (by < g.down) }
     ensures { result ≡ addresses_of g by }
 {
-    let smaller = facts::least(g.across, g.down);
+    let smaller = g.across.min(g.down);
     RowAddresses {
         smaller: smaller,
         above: grid::morton_index_by_table(0, grid::previous_block(by, g.down), smaller),
         own: grid::morton_index_by_table(0, by, smaller),
         below: grid::morton_index_by_table(0, grid::next_block(by, g.down), smaller),
     }
-}
-
-// The three words of the column that adds `part` to an address.
-pub fn column_at(data: &[u8], row: RowAddresses, part: usize, order: ChannelOrder) -> Column
-    requires { InColumn row part (length «data».now) }
-    ensures { (result ≡ column_of order «data».now (part + row.above) (part + row.own) (part + row.below)) × SmallColumn result }
-{
-    summed(
-        data,
-        part + row.above,
-        part + row.own,
-        part + row.below,
-        order,
-    )
 }

@@ -1,9 +1,8 @@
 -- How what a file's header answers of its levels is put together, and what it gives. Assumes nothing.
-use Rattle.std.proofs.Common.{◌≡◌, refl, sym, ap, ◌∙◌, Bool, true, false, List, ℕ, ◌<◌, arith, eqb, T, ne_eqb, Result, Ok, Err}
-use Rattle.facts.specs.Checks.{Check, first_of, numbered}
+use Rattle.std.proofs.Common.{◌≡◌, ℕ, ◌<◌, true, false, T, eqb, List, [], ◌∷◌, Ok, Err, Result, sym, refl, ◌∙◌, arith, ne_eqb}
+use Rattle.facts.specs.Checks.{Check, check, first_of, numbered}
 use Rattle.facts.proofs.Checks.{said-first, said-later}
 use Rattle.facts.proofs.Lists.{choice}
-use Rattle.facts.proofs.Order.{holds-here, holds_later, none_left}
 use Rattle.files.specs.declared.Stored.{Stored}
 use Rattle.pvr.specs.Header as pvr
 use Rattle.pvr.specs.declared.HeaderRefusal.{HeaderRefusal as PvrRefusal}
@@ -14,12 +13,11 @@ use Rattle.ktx.specs.Header.{is_ktx}
 use Rattle.ktx.specs.Numbers as ktx-numbers
 use Rattle.ktx.specs.Reading.{FieldsRead}
 use Rattle.ktx.specs.declared.HeaderRefusal.{HeaderRefusal as KtxRefusal}
-use Rattle.ktx.specs.declared.HeaderRefusal.TheVariants.{CutShort}
 use Rattle.ktx.proofs.Answers as ktx-header
 use Rattle.levels.specs.declared.Levels.{Levels}
 use Rattle.levels.specs.declared.Refusal.{Refusal}
 use Rattle.levels.specs.declared.Refusal.TheVariants.{Pvr, Ktx}
-use Rattle.levels.specs.Inner.{found_number, found_levels, FoundBehind, PvrFound, KtxFound, LevelsFound}
+use Rattle.levels.specs.Inner.{FoundBehind, PvrFound, KtxFound, LevelsFound}
 use Rattle.levels.specs.Numbers.{number-above}
 use Rattle.levels.specs.Refusals.{ktx_header_checks, header_checks, number_of}
 use Rattle.levels.proofs.Ranges.{as-pvr, as-ktx}
@@ -34,45 +32,36 @@ module _ {checks : List Check} {l : Levels} where
   pub by-levels : {m : Levels} → 0 ≡ first_of checks → m ≡ l → m.start < 4294967360 → FoundBehind checks l (Ok m)
   by-levels e q low = record { number = e; levels = rw (← e) q; low = low }
 
-  -- and what either gives
-  module _ {r : Result Levels Refusal} (b : FoundBehind checks l r) where
-    pub of-refusal : {f : Refusal} → r ≡ Err f → number_of f ≡ first_of checks
-    of-refusal e = sym (ap found_number e) ∙ b.number
-
-    pub of-levels : {m : Levels} → r ≡ Ok m → (0 ≡ first_of checks) × (m ≡ l) × (m.start < 4294967360)
-    of-levels {m} e =
-        let none : 0 ≡ first_of checks = sym (ap found_number e) ∙ b.number in
-        let is : m ≡ found_levels r = sym (ap found_levels e) in
-        (none, is ∙ b.levels ∙ rw (← none) refl, rw (← is) at b.low)
+  -- and what one gives that does not
+  pub of-levels : {m : Levels} → FoundBehind checks l (Ok m) → (0 ≡ first_of checks) × (m ≡ l) × (m.start < 4294967360)
+  of-levels b = (b.number, b.levels ∙ rw (← b.number) refl, b.low)
 
 -- a PVR file
-module _ (file : List ℕ) {r : Result PvrPlate PvrRefusal} (read : pvr.HeaderRead file r) where
-  pub pvr-refused : {f : PvrRefusal} → r ≡ Err f → PvrFound file (Err (Pvr f))
-  pvr-refused e = by-refusal (sym (ap pvr.header_number e) ∙ read.number)
+module _ (file : List ℕ) where
+  pub pvr-refused : {f : PvrRefusal} → pvr.HeaderRead file (Err f) → PvrFound file (Err (Pvr f))
+  pvr-refused read = by-refusal read.number
 
-  pub pvr-found : {p : PvrPlate} {count start : ℕ} → r ≡ Ok p → count ≡ pvr.levels_field file
+  pub pvr-found : {p : PvrPlate} {count start : ℕ} → pvr.HeaderRead file (Ok p) → count ≡ pvr.levels_field file
       → (start ≡ pvr.payload_offset file) × (start < 4294967348)
       → PvrFound file (Ok (record { width = p.width; height = p.height; is2bpp = p.is2bpp; count = count; start = start; sized = false }))
-  pvr-found e many place =
-      let p = pvr-header.of-plate (rw e at read) in
+  pvr-found read many place =
+      let p = pvr-header.of-plate read in
       by-levels (sym p.accepted) (rw (p.width, p.height, p.depth, many, place.0) refl) (omega (arith, place.1))
 
 -- a KTX file
-module _ (file : List ℕ) {r : Result Stored KtxRefusal} (read : FieldsRead file r) where
-  pub ktx-refused : {f : KtxRefusal} → r ≡ Err f → KtxFound file (Err (Ktx f))
-  ktx-refused {f} e = by-refusal (said-first (ktx.field_checks file) _ tt (ktx-header.first file read e) (ktx-numbers.number-above f))
+module _ (file : List ℕ) where
+  pub ktx-refused : {f : KtxRefusal} → FieldsRead file (Err f) → KtxFound file (Err (Ktx f))
+  ktx-refused {f} read = by-refusal (said-first (ktx.field_checks file) _ tt read.number (ktx-numbers.number-above f))
 
-  module _ {s : Stored} (e : r ≡ Ok s) where
-    pub ktx-cut : ktx.key_values_cut file ≡ true → KtxFound file (Err (Ktx CutShort))
-    ktx-cut cut = by-refusal (said-later (ktx.field_checks file) _ tt (ktx-header.none file read e) (holds-here _ _ _ cut))
+  module _ {s : Stored} (read : FieldsRead file (Ok s)) where
+    -- past the fields, whether the key/value bytes are cut is what is said
+    pub by-cut : {n : ℕ} → n ≡ first_of (check (ktx.key_values_cut file) 37 ∷ []) → n ≡ first_of (ktx_header_checks file)
+    by-cut e = said-later (ktx.field_checks file) _ tt (ktx-header.none file read) e
 
-    pub ktx-found : {count start : ℕ} → ktx.key_values_cut file ≡ false → count ≡ ktx.level_count file
+    pub ktx-found : {count start : ℕ} → 0 ≡ first_of (check (ktx.key_values_cut file) 37 ∷ []) → count ≡ ktx.level_count file
         → (start ≡ ktx.size_place file) × (start < 4294967360)
-        → KtxFound file
-        (Ok (record { width = s.width; height = s.height; is2bpp = s.is2bpp; count = count; start = start; sized = true }))
-    ktx-found whole many place =
-        by-levels (said-later (ktx.field_checks file) _ tt (ktx-header.none file read e) (holds_later _ _ _ whole none_left))
-        (rw (ktx-header.is-plate file read e, many, place.0) refl) place.1
+        → KtxFound file (Ok (record { width = s.width; height = s.height; is2bpp = s.is2bpp; count = count; start = start; sized = true }))
+    ktx-found whole many place = by-levels (by-cut whole) (rw (ktx-header.is-plate file read, many, place.0) refl) place.1
 
 -- a file of either kind
 module _ (file : List ℕ) where

@@ -1,10 +1,8 @@
 -- Laws of halving a side, and of how often it can be halved. Assumes nothing.
-use mathlib.Core.Path.{◌≡◌, refl, ap, ◌∙◌}
-use mathlib.Core.Logic.{⊎_elim}
-use Prim.Native.Nat.{ℕ, zero, suc, ◌*◌, ◌/◌, ◌^◌, ◌≤◌, ◌<◌}
-use native.Mathlib.Nat.{div-div-eq-div-mul, div-lt_iff_lt-mul, le-div_iff_mul-le, eq-or-lt_of_le, pow-succ'}
-use native.Mathlib.Omega.{arith}
-use lib.Pow.{pow_pos, pow-lt}
+use Rattle.std.proofs.Common.{◌≡◌, ℕ, zero, suc, ◌*◌, ◌/◌, ◌^◌, ◌<◌, ◌≤◌, max, sym, refl, ap, ◌∙◌, ⊎_elim, div-lt_iff_lt-mul, eq-or-lt_of_le}
+use Rattle.std.proofs.Common.{le-div_iff_mul-le, arith, pow_pos}
+use native.Mathlib.Nat.{div-div-eq-div-mul, pow-succ'}
+use lib.Pow.{pow-lt}
 use Rattle.facts.proofs.Numbers.{lt-or-le}
 use Rattle.facts.proofs.Powers.{pow-le-cancel}
 use Rattle.grid.specs.Grid.{halvings, log2}
@@ -44,7 +42,7 @@ pow_lt_cancel : {a b : ℕ} → 2 ^ a < 2 ^ b → a < b
 pow_lt_cancel {a} {b} h = ⊎_elim (λ less. less) (λ more. absurd (omega (arith, pow-le more))) (lt-or-le a b)
 
 -- the logarithm is the one exponent whose power a number reaches, while it does not reach the next
-log2-is : (k n : ℕ) → 2 ^ k ≤ n → n < 2 ^ suc k → log2 n ≡ k
+pub log2-is : (k n : ℕ) → 2 ^ k ≤ n → n < 2 ^ suc k → log2 n ≡ k
 log2-is k n low high =
     let b = log2-bounds n (omega (arith, pow_pos k)) in
     let up : k < suc (log2 n) = pow_lt_cancel (omega (arith, b.1)) in
@@ -63,6 +61,14 @@ unfolding log2 halvings
 log2-none zero h = refl
 log2-none (suc zero) h = refl
 log2-none (suc (suc n)) h = absurd (omega arith)
+
+-- and 0 no more often than 1
+pub log2-max : (side m : ℕ) → m ≡ max side 1 → log2 m ≡ log2 side
+log2-max side m e =
+    ⊎_elim
+    (λ less. log2-none m (omega (arith, e)) ∙ sym (log2-none side less))
+    (λ more. ap log2 (omega (arith, e)))
+    (lt-or-le side 2)
 
 -- a side up to 65,536 can be halved sixteen times at most
 pub log2-small : (n : ℕ) → n ≤ 65536 → log2 n ≤ 16

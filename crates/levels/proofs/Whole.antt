@@ -1,13 +1,6 @@
 -- From what a header, the plate's levels and a size word say to the promise for a level of a file. Assumes nothing.
-use Rattle.std.proofs.Common.{Result, Ok, Err}
-use mathlib.Core.Path.{◌≡◌, refl, sym, ap, ◌∙◌}
-use mathlib.Core.Bool.{true, false}
-use mathlib.Core.List.{List, [], ◌++◌}
-use Prim.Native.Nat.{ℕ, ◌-◌, ◌≤◌, ◌<◌, min}
-use native.Mathlib.Omega.{arith}
-use lib.Dec.{T, eqb}
-use lib.ListN.{length, take, drop}
-use borrow.Author.Tests.{ne_eqb, ltb-false, leb-false}
+use Rattle.std.proofs.Common.{◌≡◌, ℕ, ◌-◌, ◌<◌, ◌≤◌, min, true, false, T, eqb, List, [], ◌++◌, length, take, drop, Ok, Err, Result, sym, refl, ap, ◌∙◌, arith}
+use Rattle.std.proofs.Common.{ltb-false, ne_eqb, leb-false}
 use Rattle.facts.specs.Checks.{Check, first_of, numbered, condition}
 use Rattle.facts.proofs.Checks.{none_said, neither-said, said-first, said-later, numbered-append}
 use Rattle.facts.proofs.Lists.{choice}
@@ -26,13 +19,13 @@ use Rattle.pvrtc.proofs.Orders.{refusal-in}
 use Rattle.levels.specs.declared.Level.{Level}
 use Rattle.levels.specs.declared.Levels.{Levels}
 use Rattle.levels.specs.declared.Refusal.{Refusal}
-use Rattle.levels.specs.Calls.{described_number, described_level, Answered, LevelRead, LevelDecoded}
+use Rattle.levels.specs.Calls.{Answered, LevelRead, LevelDecoded}
 use Rattle.levels.specs.Inner.{LevelsFound, Walks, picture_for, DecodedAt}
 use Rattle.levels.specs.Levels.{levels_in, plate_in, size_word_bytes, start_at, level_at, level_of, picture_of, level_data}
 use Rattle.levels.specs.Refusals.{most_levels, header_checks, count_checks, word_checks, size_word_checks, own_checks, level_checks, call_checks}
 use Rattle.levels.specs.Refusals.{level_refusal, decode_refusal, number_of, decoded_number, Says}
 use Rattle.levels.specs.Numbers.{number-above}
-use Rattle.levels.proofs.Answers.{of-refusal, of-levels, numbered-header}
+use Rattle.levels.proofs.Answers.{of-levels, numbered-header}
 use Rattle.levels.proofs.Halving.{halved-above, halved-small}
 use Rattle.levels.proofs.Ranges.{not-large, most-small, start-past}
 
@@ -68,15 +61,9 @@ module _ {n : ℕ} {level : Level} where
   pub by_level : {m : Level} → 0 ≡ n → m ≡ level → Answered n level (Ok m)
   by_level e q = record { number = e; given = rw (← e) q }
 
-  -- and what either gives
-  module _ {r : Result Level Refusal} (a : Answered n level r) where
-    pub of-refused : {f : Refusal} → r ≡ Err f → number_of f ≡ n
-    of-refused e = sym (ap described_number e) ∙ a.number
-
-    pub of-level : {m : Level} → r ≡ Ok m → (0 ≡ n) × (m ≡ level)
-    of-level e =
-        let none : 0 ≡ n = sym (ap described_number e) ∙ a.number in
-        (none, sym (ap described_level e) ∙ a.given ∙ rw (← none) refl)
+  -- and what one gives that does not refuse
+  pub of-level : {m : Level} → Answered n level (Ok m) → (0 ≡ n) × (m ≡ level)
+  of-level a = (a.number, a.given ∙ rw (← a.number) refl)
 
 -- where there are size words, the asked level's is read, and it has four bytes before the level
 module _ (file : List ℕ) (l : Levels) (k : ℕ) where
@@ -96,20 +83,17 @@ module _ (file : List ℕ) (l : Levels) (k : ℕ) where
   word-before e = omega (arith, start-past l k, ap size_word_bytes e)
 
 -- the plate's levels speak first, then the size word
-module _ (file : List ℕ) (l : Levels) (k : ℕ) (r : Result (Unit {0}) Refusal) (says : Says r (size_checks (plate_in l) ++ count_checks l k)) where
+module _ (file : List ℕ) (l : Levels) (k : ℕ) where
   abbrev first : List Check
   first = size_checks (plate_in l) ++ count_checks l k
 
   abbrev Own : Result Level Refusal → Type 0
   Own d = Answered (first_of (own_checks file l k)) (level_at l k) d
 
-  pub by-levels : {f : Refusal} → r ≡ Err f → Own (Err f)
-  by-levels {f} e = by-refusal (said-first first (size_word_checks file l k) tt (sym (ap decoded_number e) ∙ says) (number-above f))
+  pub by-levels : {f : Refusal} → Says (Err f) first → Own (Err f)
+  by-levels {f} says = by-refusal (said-first first (size_word_checks file l k) tt says (number-above f))
 
-  module _ (done : r ≡ (Ok tt)) where
-    none : 0 ≡ first_of first
-    none = sym (ap decoded_number done) ∙ says
-
+  module _ (none : Says (Ok tt) first) where
     refused_none : (n : ℕ) → condition first n ≡ false
     refused_none = none_said first tt (sym none)
 
@@ -126,34 +110,31 @@ module _ (file : List ℕ) (l : Levels) (k : ℕ) (r : Result (Unit {0}) Refusal
       pub unsized : l.sized ≡ false → Own (Ok m)
       unsized e = by_level (said-later first (size_word_checks file l k) tt none (rw (no_words file l k e) none_left)) is
 
-      module _ (sized : l.sized ≡ true) (s : Result (Unit {0}) Refusal) (word : Says s (word_checks file m)) where
-        from-word : {n : ℕ} → n ≡ decoded_number s → n ≡ first_of (own_checks file l k)
-        from-word e =
+      module _ (sized : l.sized ≡ true) where
+        from-word : {n : ℕ} → n ≡ first_of (word_checks file m) → n ≡ first_of (own_checks file l k)
+        from-word word =
             said-later first (size_word_checks file l k) tt none
-            (e ∙ word ∙ ap (λ (c : Level). first_of (word_checks file c)) is ∙ ap first_of (sym (words_of file l k sized)))
+            (word ∙ ap (λ (c : Level). first_of (word_checks file c)) is ∙ ap first_of (sym (words_of file l k sized)))
 
-        pub by_word : {f : Refusal} → s ≡ Err f → Own (Err f)
-        by_word e = by-refusal (from-word (sym (ap decoded_number e)))
+        pub by_word : {f : Refusal} → Says (Err f) (word_checks file m) → Own (Err f)
+        by_word word = by-refusal (from-word word)
 
-        pub past_word : s ≡ (Ok tt) → Own (Ok m)
-        past_word e = by_level (from-word (sym (ap decoded_number e))) is
+        pub past_word : Says (Ok tt) (word_checks file m) → Own (Ok m)
+        past_word word = by_level (from-word word) is
 
 -- where the header refuses nothing, it is these that speak
 module _ (file : List ℕ) (k : ℕ) where
   own-speaks : 0 ≡ first_of (header_checks file) → first_of (own_checks file (levels_in file) k) ≡ level_refusal file k
   own-speaks e = said-later (header_checks file) (own_checks file (levels_in file) k) (numbered-header file) e refl
 
-  module _ {r : Result Levels Refusal} (b : LevelsFound file r) where
-    pub by-header : {f : Refusal} → r ≡ Err f → LevelRead file k (Err f)
-    by-header {f} e = by-refusal (said-first (header_checks file) _ (numbered-header file) (of-refusal b e) (number-above f))
+  pub by-header : {f : Refusal} → LevelsFound file (Err f) → LevelRead file k (Err f)
+  by-header {f} b = by-refusal (said-first (header_checks file) _ (numbered-header file) b.number (number-above f))
 
-    pub start-found : {l : Levels} → r ≡ Ok l → l.start < 4294967360
-    start-found e = (of-levels b e).2
-
-    pub by-own : {l : Levels} {d : Result Level Refusal} → r ≡ Ok l → Answered (first_of (own_checks file l k)) (level_at l k) d → LevelRead file k d
-    by-own e a =
-        let got = of-levels b e in
-        rw (own-speaks got.0) at (rw got.1 at a)
+  pub by-own : {l : Levels} {d : Result Level Refusal} → LevelsFound file (Ok l) → Answered (first_of (own_checks file l k)) (level_at l k) d
+      → LevelRead file k d
+  by-own b a =
+      let got = of-levels b in
+      rw (own-speaks got.0) at (rw got.1 at a)
 
 -- the refusals of a level, and what follows from none of them
 module _ (file : List ℕ) (k : ℕ) where
@@ -216,18 +197,17 @@ module _ (file : List ℕ) (k : ℕ) where
       record { number = a.number ∙ speaks; words = rw (← speaks) a.words }
 
   -- from a description to the level's picture
-  module _ {old : List ℕ} {d : Result Level Refusal} (a : LevelRead file k d) where
-    pub not-described : {order : ChannelOrder} {f : Refusal} → d ≡ Err f → LevelDecoded order file k old old (Err f)
-    not-described {f = f} e =
-        let first : number_of f ≡ level_refusal file k = of-refused a e in
-        let number : number_of f ≡ decode_refusal file k (length old) = said-first (level_checks file k) _ numbered-level first (number-above f) in
-        let other : eqb (decode_refusal file k (length old)) 0 ≡ false = ne_eqb (decode_refusal file k (length old)) 0 (omega (arith, number-above f)) in
-        record { number = number; words = rw other refl }
+  pub not-described : {old : List ℕ} {order : ChannelOrder} {f : Refusal} → LevelRead file k (Err f) → LevelDecoded order file k old old (Err f)
+  not-described {old} {f = f} a =
+      let number : number_of f ≡ decode_refusal file k (length old) = said-first (level_checks file k) _ numbered-level a.number (number-above f) in
+      let other : eqb (decode_refusal file k (length old)) 0 ≡ false = ne_eqb (decode_refusal file k (length old)) 0 (omega (arith, number-above f)) in
+      record { number = number; words = rw other refl }
 
-    pub as-described : {order : ChannelOrder} {level : Level} {new : List ℕ} {r : Result (Unit {0}) Refusal} → d ≡ Ok level → DecodedAt order file level old new r
-        → LevelDecoded order file k old new r
-    as-described {order} {level} {new} {r} e b =
-        let got = of-level a e in
-        let speaks = call-decides (sym got.0) (length old) in
-        let c : DecodedAt order file (level_of file k) old new r = rw got.1 at b in
-        record { number = c.number ∙ sym speaks; words = rw speaks c.words }
+  pub as-described : {old : List ℕ} {order : ChannelOrder} {level : Level} {new : List ℕ} {r : Result (Unit {0}) Refusal} → LevelRead file k (Ok level)
+      → DecodedAt order file level old new r
+      → LevelDecoded order file k old new r
+  as-described {old} {order} {level} {new} {r} a b =
+      let got = of-level a in
+      let speaks = call-decides (sym got.0) (length old) in
+      let c : DecodedAt order file (level_of file k) old new r = rw got.1 at b in
+      record { number = c.number ∙ sym speaks; words = rw speaks c.words }

@@ -1,5 +1,5 @@
 -- What is refused of a level, as document 02 says it (W5). Assumes nothing: these are definitions.
-use Rattle.std.specs.Prelude.{◌≡◌, Bool, cond, not, List, [], ◌∷◌, ◌++◌, ℕ, suc, ◌-◌, max, eqb, ltb, leb, length, Result}
+use Rattle.std.specs.Prelude.{Bool, cond, not, List, [], ◌∷◌, ◌++◌, ℕ, suc, ◌-◌, max, eqb, ltb, leb, length, Result}
 use Rattle.facts.specs.Checks.{Check, check, first_of, number_said}
 use Rattle.facts.specs.Checks as said
 use Rattle.files.specs.Fields.{u32_at}

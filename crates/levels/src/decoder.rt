@@ -25,7 +25,8 @@ fn decode_at(
         GridMode::Stored,
         order,
     );
-    pvrtc::decode_picture(&file[start..], p, image).map_err(Refusal::Picture)
+    pvrtc::decode_picture(&file[start..], p, image)?;
+    Ok(())
 }
 
 // Level k of a file into lent words, as the block call writes it in the stored mode and this order of channels; or the first refusal whose

@@ -1,51 +1,37 @@
 -- What was read until the end of the input, or up to the limit, is a file's, so what is answered for it is the file's output. Assumes nothing.
-use Rattle.std.proofs.Common.{le_of_eq, ◌≡◌, ◌∙◌, refl, sym, ap, subst, ℕ, List, ◌++◌, ◌≤◌, length, take}
-use Rattle.std.specs.Prelude.{Option, None, Some, IfSome}
+use Rattle.std.proofs.Common.{◌≡◌, ◌∙◌, sym, ap, subst, ℕ, List, ◌++◌, ◌≤◌, length, take, ⊎_elim, le_of_eq, arith, true≢false}
+use Rattle.std.specs.Prelude.{Option, None, Some, IfSome, Result, Ok, Err, OnOk, is_ok}
 use Rattle.std.specs.Io.KnownBytes.{Appends, Consumes}
 use Rattle.std.proofs.lemmas.List.{append-nil, length-take-le}
-use Rattle.std.proofs.Math.Seq.{take-append_seam}
+use Rattle.std.proofs.Math.Seq.{take-append_seam, take_all}
 use Rattle.convert.specs.Output.{output, read_limit}
-use Rattle.convert.proofs.Past.{enough-read}
-use Rattle.plate.specs.Input.{AtEnd, stopped, came, Answers}
-use Rattle.plate.specs.declared.Input.{Input}
-use Rattle.plate.specs.declared.Read.{Read}
-use Rattle.plate.specs.declared.Read.TheVariants.{Bytes, End, Failed}
+use Rattle.plate.specs.Input.{Stopped, came, Answers}
 
 -- no more bytes than the limit
-pub few : (last : Read) (count : ℕ) → stopped last count → count ≤ read_limit
-few (Bytes n) count e = le_of_eq e
-few End count e = e
-few Failed count e = e
-
--- where reading stopped, the bytes that were read have the whole file's output
-pub whole_output : (last : Read) (bytes file : List ℕ) (count : ℕ) → stopped last count → came last bytes file count → output bytes ≡ output file
-whole_output (Bytes n) bytes file count e is = ap output (is ∙ ap (λ (k : ℕ). take k file) e) ∙ enough-read file
-whole_output End bytes file count e is = ap output is
-whole_output Failed bytes file count e is = absurd is
+pub few : (count : ℕ) (left : Option (List ℕ)) → Stopped count left → count ≤ read_limit
+few count left = ⊎_elim (λ e. le_of_eq e) (λ h. h.0)
 
 -- what reads took is a file's first bytes, or all of it
-came_of : (last : Read) (file left bytes : List ℕ) (count : ℕ)
-    → (last ≡ Failed → ⊥)
-    → length bytes ≡ count
-    → file ≡ bytes ++ left
-    → AtEnd last (Some left)
-    → came last bytes file count
-came_of (Bytes n) file left bytes count other same is end =
-    sym (ap (λ (k : ℕ). take k file) (sym same) ∙ (ap (λ (f : List ℕ). take (length bytes) f) is ∙ take-append_seam bytes left))
-came_of End file left bytes count other same is end = sym (is ∙ (ap (λ (l : List ℕ). bytes ++ l) end ∙ append-nil bytes))
-came_of Failed file left bytes count other same is end = absurd (other refl)
+came_of : (file left bytes : List ℕ) (count : ℕ) → length bytes ≡ count → file ≡ bytes ++ left → Stopped count (Some left) → came bytes file
+came_of file left bytes count same is =
+    ⊎_elim
+    (λ e. sym (ap (λ (k : ℕ). take k file) (sym (same ∙ e)) ∙ (ap (take (length bytes)) is ∙ take-append_seam bytes left)))
+    (λ h. sym
+    (ap (take read_limit) (is ∙ (ap (λ (l : List ℕ). bytes ++ l) h.1 ∙ append-nil bytes)) ∙ take_all read_limit bytes (omega (arith, same, h.0))))
 
 -- so the file's output is what was written
-pub whole : (known known' held held' : Option (List ℕ)) (i : Input) (input out : List ℕ) (r : ℕ)
-    → (i.last ≡ Failed → ⊥)
-    → i.count ≤ length input
-    → Consumes known known' (take i.count input)
-    → AtEnd i.last known'
-    → Answers i input out r
-    → Appends held held' (take r out)
+pub whole : (known known' held held' : Option (List ℕ)) (count : ℕ) (input out : List ℕ) (r : ℕ) → count ≤ length input → Stopped count known'
+    → Consumes known known' (take count input) → Answers (take count input) out r → Appends held held' (take r out)
     → IfSome known (λ file. Appends held held' (output file))
-whole None known' held held' i input out r other inside took end answers written = tt
-whole (Some file) None held held' i input out r other inside took end answers written = absurd took
-whole (Some file) (Some left) held held' i input out r other inside took end answers written =
-    let is = came_of i.last file left (take i.count input) i.count other (length-take-le i.count input inside) took end in
+whole None known' held held' count input out r inside stopped took answers written = tt
+whole (Some file) None held held' count input out r inside stopped took answers written = absurd took
+whole (Some file) (Some left) held held' count input out r inside stopped took answers written =
+    let is = came_of file left (take count input) count (length-take-le count input inside) took stopped in
     subst (λ (bytes : List ℕ). Appends held held' bytes) (answers.is file is) written
+
+-- what holds where one call succeeded holds where the answer made of it is a success
+pub on_both : {E F P Q : Type 0} (r : Result (Unit {0}) E) (s : Result (Unit {0}) F) → is_ok s ≡ is_ok r → (P → Q) → OnOk r P → OnOk s Q
+on_both (Ok x) (Ok y) e f p = f p
+on_both (Ok x) (Err y) e f p = tt
+on_both (Err x) (Ok y) e f p = absurd (true≢false e)
+on_both (Err x) (Err y) e f p = tt

@@ -1,4 +1,5 @@
 // The cases.
+use replayed::Fault;
 
 // Plain headers, four bytes to a number. What is chosen of a file is put into them.
 pub const PVR: [u32; 13] = [0x03525650, 0, 3, 0, 0, 0, 8, 8, 1, 1, 1, 1, 0];
@@ -10,7 +11,7 @@ pub const KTX: [u32; 16] = [
 // Width, height, the number of levels that the header says, how many bytes of metadata or key/values are skipped; the level whose size word is
 // another (99: none), and that word; the first asked level, and the one at which asking ends, 18 to 21 being large numbers.
 // These have all their levels, and nothing is wrong with them; a level whose blocks across or down are no power of two gets 5.
-pub const FILES: [[u32; 8]; 9] = [
+pub static FILES: [[u32; 8]; 9] = [
     [64, 64, 7, 0, 99, 0, 0, 9],
     [64, 64, 7, 0, 99, 0, 18, 22],
     [128, 8, 8, 13, 99, 0, 0, 10],
@@ -23,7 +24,7 @@ pub const FILES: [[u32; 8]; 9] = [
 ];
 
 // The same for other numbers of levels.
-pub const COUNTS: [[u32; 8]; 13] = [
+pub static COUNTS: [[u32; 8]; 13] = [
     // fewer than are allowed
     [64, 64, 3, 5, 99, 0, 0, 4],
     [100, 60, 1, 0, 99, 0, 0, 2],
@@ -43,7 +44,7 @@ pub const COUNTS: [[u32; 8]; 13] = [
 ];
 
 // The same for sides at their limits. Of the largest plates only the front is there.
-pub const SIDES: [[u32; 8]; 14] = [
+pub static SIDES: [[u32; 8]; 14] = [
     [0, 8, 1, 0, 99, 0, 0, 2],
     [8, 0, 1, 0, 99, 0, 0, 1],
     [0, 0, 0, 0, 99, 0, 0, 1],
@@ -62,7 +63,7 @@ pub const SIDES: [[u32; 8]; 14] = [
 ];
 
 // The same with one wrong size word, in KTX files alone: of every other level than the asked one it has no effect.
-pub const WORDS: [[u32; 8]; 9] = [
+pub static WORDS: [[u32; 8]; 9] = [
     [16, 16, 5, 13, 0, 32, 0, 5],
     [16, 16, 5, 13, 0, 0, 0, 5],
     [16, 16, 5, 13, 0, 129, 0, 5],
@@ -75,9 +76,41 @@ pub const WORDS: [[u32; 8]; 9] = [
 ];
 
 // The refusals in their order. Of a KTX file 37 is for the key/value bytes, and 137 the 37 for the asked level's size word.
-pub const PVR_ORDER: [u64; 15] = [11, 12, 18, 13, 14, 15, 16, 17, 1, 2, 20, 19, 3, 4, 5];
+pub static PVR_ORDER: [Fault; 15] = [
+    Fault::ShortPvrHeader,
+    Fault::NotPvr,
+    Fault::UnknownFlags,
+    Fault::UnknownPvrFormat,
+    Fault::DepthNotOne,
+    Fault::SurfacesNotOne,
+    Fault::FacesNotOne,
+    Fault::NoLevel,
+    Fault::ZeroSide,
+    Fault::LargeSide,
+    Fault::TooManyLevels,
+    Fault::NoSuchLevel,
+    Fault::ShortData,
+    Fault::ShortImage,
+    Fault::NotPowerOfTwo,
+];
 
-pub const KTX_ORDER: [u64; 15] = [31, 32, 33, 34, 35, 37, 1, 2, 20, 19, 137, 36, 3, 4, 5];
+pub static KTX_ORDER: [Fault; 15] = [
+    Fault::ShortKtxHeader,
+    Fault::NotKtx,
+    Fault::OtherByteOrder,
+    Fault::UnknownKtxFormat,
+    Fault::NotOnePlate,
+    Fault::CutShort,
+    Fault::ZeroSide,
+    Fault::LargeSide,
+    Fault::TooManyLevels,
+    Fault::NoSuchLevel,
+    Fault::CutBeforeLevel,
+    Fault::OtherSize,
+    Fault::ShortData,
+    Fault::ShortImage,
+    Fault::NotPowerOfTwo,
+];
 
 // Flags of a PVR file: the two that are accepted, those beside them, the highest bit, and all of them.
-pub const FLAGS: [u32; 6] = [0, 1, 2, 3, 0x80000000, 0xffffffff];
+pub static FLAGS: [u32; 6] = [0, 1, 2, 3, 0x80000000, 0xffffffff];

@@ -5,422 +5,273 @@
 
 mod tables;
 
+use facts::Numbered;
+use listing::{Case, Depth, MODES, Mode, ORDERS, Order};
 use pixel::ChannelOrder;
-use pvrtc::{Decoded, GridMode, Picture, Texel};
-use std::io;
+use pvrtc::{GridMode, Picture, Refusal};
 use std::io::Write;
+use std::{fmt, io};
 
-// A way to the words of a picture: the call that is told the depth, that with the depth in its name, the plain form, the row call for each row, the
-// texel call for each texel; or to the words of row y.
+// A case's name: the depth, the mode, the size, the order and how many bytes are lent.
 #[derive(Clone, Copy)]
-enum Way {
-    Told,
-    Named,
-    Plain,
-    Rows,
-    Texels,
-    Row(usize),
+struct Name<'a>(Case<'a>);
+
+// Whether another way answers the same, on the same bytes and words.
+#[derive(Clone, Copy)]
+struct Same(bool);
+
+// A listed call: how many bytes and words are lent, the sides, and the column and the row that are asked for.
+#[derive(Clone, Copy)]
+struct Call {
+    bytes: usize,
+    words: usize,
+    width: usize,
+    height: usize,
+    x: usize,
+    y: usize,
 }
 
-// The refusal's number, 0 for none, and the sum over every lent word afterwards.
-#[derive(Clone, Copy)]
-struct Answer {
-    number: u64,
-    sum: u64,
+impl fmt::Display for Name<'_> {
+    fn fmt<W: fmt::Write>(&self, f: &mut fmt::Formatter<W>) -> fmt::Result {
+        let p = self.0.picture;
+        let (depth, mode, order) = (Depth(p.is2bpp), Mode(p.mode), Order(p.order));
+        let (width, height, bytes) = (p.width, p.height, self.0.data.len());
+        write!(f, "{depth} {mode} {width} x {height}{order}, bytes {bytes}")
+    }
+}
+
+impl fmt::Display for Same {
+    fn fmt<W: fmt::Write>(&self, f: &mut fmt::Formatter<W>) -> fmt::Result {
+        f.write_str(if self.0 { "same" } else { "differs" })
+    }
+}
+
+// A row of `NEEDS`: a call for the last row and texel, with as many words as there are.
+impl From<u64> for Call {
+    fn from(row: u64) -> Call {
+        let width = (row / 100000 % 100000) as usize;
+        let height = (row % 100000) as usize;
+        Call {
+            bytes: (row / 10000000000) as usize,
+            words: 4105,
+            width,
+            height,
+            x: width.saturating_sub(1),
+            y: height.saturating_sub(1),
+        }
+    }
+}
+
+// A row of `OTHERS`.
+impl From<[usize; 6]> for Call {
+    fn from([bytes, words, width, height, x, y]: [usize; 6]) -> Call {
+        Call {
+            bytes,
+            words,
+            width,
+            height,
+            x,
+            y,
+        }
+    }
 }
 
 fn main(rt: HostRuntime) -> io::Result<()> {
     let mut out = io::writer(&rt);
-    let reached = print_sizes(&mut out, false, 1)?;
-    print_sizes(&mut out, true, reached)?;
-    print_red_corner(&mut out, GridMode::Rust, ChannelOrder::BlueFirst)?;
-    print_red_corner(&mut out, GridMode::Rust, ChannelOrder::RedFirst)?;
-    print_red_corner(&mut out, GridMode::Stored, ChannelOrder::BlueFirst)?;
-    print_red_corner(&mut out, GridMode::Stored, ChannelOrder::RedFirst)?;
-    print_one_colour(&mut out, false)?;
-    print_one_colour(&mut out, true)?;
+    print_sizes(&mut out)?;
+    print_red_corners(&mut out)?;
+    print_one_colour(&mut out)?;
     print_calls(&mut out)?;
     out.flush()
 }
 
-// Each width with each height. As in `print_size`, the answer is the generator's state afterwards.
-fn print_sizes(out: &mut impl Write, is2bpp: bool, state: u64) -> io::Result<u64> {
-    let mut reached = state;
-    for i in 0..400usize {
-        reached = print_size(out, i % 20 + 1, i / 20 + 1, is2bpp, reached)?;
+// Each width with each height at both depths, for which the generator runs on; each in both modes and both orders, on the same data and words: the
+// same picture in the same order has the same sum.
+fn print_sizes(out: &mut impl Write) -> io::Result<()> {
+    let mut state = 1;
+    for is2bpp in [false, true] {
+        for height in 1..21 {
+            for width in 1..21 {
+                let mut data = [0; 200];
+                state = samples::draw_bytes(&mut data, state);
+                for mode in MODES {
+                    for order in ORDERS {
+                        let picture = pvrtc::picture_of(width, height, is2bpp, mode, order);
+                        print_picture(out, picture, &data, state)?;
+                    }
+                }
+            }
+        }
     }
-    Ok(reached)
+    Ok(())
 }
 
-// One size in both modes, on the same data and words: the same picture in the same order has the same sum.
-fn print_size(
+// A picture each way, with as many bytes as it needs: the call that is told the depth, that with the depth in its name, the plain form, the row call for
+// each row, the texel call for each texel. Then the first with a byte less.
+fn print_picture(
     out: &mut impl Write,
-    width: usize,
-    height: usize,
-    is2bpp: bool,
+    picture: Picture,
+    data: &[u8],
     state: u64,
-) -> io::Result<u64> {
-    let mut data = [0u8; 200];
-    let reached = samples::draw_bytes(&mut data, state);
-    let rust = blue_first(width, height, is2bpp, GridMode::Rust);
-    let stored = blue_first(width, height, is2bpp, GridMode::Stored);
-    print_picture(out, rust, &data, reached)?;
-    print_picture(out, red_first(rust), &data, reached)?;
-    print_picture(out, stored, &data, reached)?;
-    print_picture(out, red_first(stored), &data, reached)?;
-    Ok(reached)
-}
-
-// A picture in the Rust's order.
-fn blue_first(width: usize, height: usize, is2bpp: bool, mode: GridMode) -> Picture {
-    pvrtc::picture_of(width, height, is2bpp, mode, ChannelOrder::BlueFirst)
-}
-
-fn red_first(p: Picture) -> Picture {
-    pvrtc::in_order(p, ChannelOrder::RedFirst)
-}
-
-// A picture each way, with as many bytes as it needs; then with a byte less.
-fn print_picture(out: &mut impl Write, p: Picture, data: &[u8], state: u64) -> io::Result<()> {
-    let need = need_of(p);
-    let told = answer_of(Way::Told, p, data, need, 409, state);
-    print_name(out, p, need)?;
-    print_answer(out, told)?;
-    print_same(out, b"; named", told, Way::Named, p, data, need, 409, state)?;
-    print_same(out, b", plain", told, Way::Plain, p, data, need, 409, state)?;
-    print_same(out, b", rows", told, Way::Rows, p, data, need, 409, state)?;
-    print_same(
-        out,
-        b", texels",
-        told,
-        Way::Texels,
-        p,
+) -> io::Result<()> {
+    let need = listing::need_of(picture).min(data.len());
+    let data = &data[..need];
+    let case = Case {
+        picture,
         data,
-        need,
-        409,
+        words: 409,
         state,
-    )?;
-    let short = answer_of(Way::Told, p, data, less_one(need), 409, state);
-    print_part(out, b"; a byte less:", short.number)?;
-    out.write_all(b"\n")
+    };
+    let short = Case {
+        data: &data[..need.saturating_sub(1)],
+        ..case
+    };
+    let told = case.answer(listing::decode_told);
+    let named = Same(case.answer(listing::decode_named) == told);
+    let plain = Same(case.answer(listing::decode_plain) == told);
+    let rows = Same(case.answer(decode_rows) == told);
+    let texels = Same(case.answer(decode_texels) == told);
+    let less = short.answer(listing::decode_told).number;
+    writeln!(
+        out,
+        "{}: {told}; named {named}, plain {plain}, rows {rows}, texels {texels}; a byte less: {less}",
+        Name(case)
+    )
 }
 
-// The bytes that a picture's grid needs, or 0 for a grid that no call takes.
-fn need_of(p: Picture) -> usize {
-    let g = pvrtc::grid_of(p);
-    if g.across > 65536 || g.down > 65536 {
-        return 0;
+fn decode_rows(data: &[u8], p: Picture, words: &mut [u32]) -> Result<(), Refusal> {
+    each_row(p, words, |y, row| pvrtc::decode_row(data, p, y, row))
+}
+
+fn decode_texels(data: &[u8], p: Picture, words: &mut [u32]) -> Result<(), Refusal> {
+    each_row(p, words, |y, row| decode_texels_of(data, p, y, row))
+}
+
+// Each row into its place of the words, up to the first that is refused.
+fn each_row<F: Fn(usize, &mut [u32]) -> Result<(), Refusal>>(
+    p: Picture,
+    words: &mut [u32],
+    decode: F,
+) -> Result<(), Refusal>
+    requires { F.IsAlwaysCallable decode }
+{
+    for y in 0..p.height {
+        let at = y.saturating_mul(p.width).min(words.len());
+        decode(y, &mut words[at..])?;
     }
-    grid::need_of(g)
+    Ok(())
 }
 
-fn less_one(n: usize) -> usize {
-    if n == 0 { 0 } else { n - 1 }
+// The texels of row y, up to the first that is refused.
+fn decode_texels_of(data: &[u8], p: Picture, y: usize, row: &mut [u32]) -> Result<(), Refusal> {
+    for (x, word) in row.iter_mut().take(p.width).enumerate() {
+        *word = pvrtc::decode_texel(data, p, x, y)?;
+    }
+    Ok(())
 }
 
 // The reds of the first row of the red corner.
-fn print_red_corner(out: &mut impl Write, mode: GridMode, order: ChannelOrder) -> io::Result<()> {
-    let mut data = [0u8; 32];
-    let mut words = [0u32; 16];
+fn print_red_corners(out: &mut impl Write) -> io::Result<()> {
+    let mut data = [0; 32];
     samples::lay_file(&tables::RED_CORNER, &mut data);
-    pvrtc::decode_pvrtc_4bpp(&data, 4, 4, &mut words, mode, order);
-    out.write_all(b"red corner, ")?;
-    print_mode(out, mode)?;
-    print_order(out, order)?;
-    print_part(out, b":", red_of(words[0], order))?;
-    print_part(out, b"", red_of(words[1], order))?;
-    print_part(out, b"", red_of(words[2], order))?;
-    print_part(out, b"", red_of(words[3], order))?;
-    out.write_all(b"\n")
+    for mode in MODES {
+        for order in ORDERS {
+            let mut words = [0; 16];
+            let _ = pvrtc::decode_pvrtc_4bpp(&data, 4, 4, &mut words, mode, order);
+            write!(out, "red corner, {}{}:", Mode(mode), Order(order))?;
+            for word in &words[..4] {
+                write!(out, " {}", red_of(*word, order))?;
+            }
+            writeln!(out)?;
+        }
+    }
+    Ok(())
 }
 
-fn red_of(word: u32, order: ChannelOrder) -> u64 {
+fn red_of(word: u32, order: ChannelOrder) -> u8 {
+    let [first, _, third, _] = word.to_le_bytes();
     match order {
-        ChannelOrder::BlueFirst => byte_of(word, 2),
-        ChannelOrder::RedFirst => byte_of(word, 0),
+        ChannelOrder::BlueFirst => third,
+        ChannelOrder::RedFirst => first,
     }
 }
 
-// Byte `place` of a word, of four from the low one.
-fn byte_of(word: u32, place: u64) -> u64 {
-    (word as u64 >> (8 * (place % 4))) % 256
-}
-
-// The texel of one colour in each order.
-fn print_one_colour(out: &mut impl Write, is2bpp: bool) -> io::Result<()> {
-    let p = blue_first(1, 1, is2bpp, GridMode::Rust);
-    print_bytes(out, p)?;
-    print_bytes(out, red_first(p))
-}
-
 // The texel of one colour, byte by byte from the low one.
-fn print_bytes(out: &mut impl Write, p: Picture) -> io::Result<()> {
-    let mut data = [0u8; 8];
-    let mut words = [0u32; 1];
+fn print_one_colour(out: &mut impl Write) -> io::Result<()> {
+    let mut data = [0; 8];
     samples::lay_file(&tables::ONE_COLOUR, &mut data);
-    decode(Way::Told, p, &data, &mut words);
-    out.write_all(b"one colour, ")?;
-    print_name(out, p, 8)?;
-    print_part(out, b":", byte_of(words[0], 0))?;
-    print_part(out, b"", byte_of(words[0], 1))?;
-    print_part(out, b"", byte_of(words[0], 2))?;
-    print_part(out, b"", byte_of(words[0], 3))?;
-    out.write_all(b"\n")
+    for is2bpp in [false, true] {
+        for order in ORDERS {
+            let picture = pvrtc::picture_of(1, 1, is2bpp, GridMode::Rust, order);
+            let mut words = [0];
+            let _ = listing::decode_told(&data, picture, &mut words);
+            let name = Name(Case {
+                picture,
+                data: &data,
+                words: 1,
+                state: 1,
+            });
+            let [first, second, third, fourth] = words[0].to_le_bytes();
+            writeln!(out, "one colour, {name}: {first} {second} {third} {fourth}")?;
+        }
+    }
+    Ok(())
 }
 
 // The listed calls. All get the same bytes and words, as far as they reach.
 fn print_calls(out: &mut impl Write) -> io::Result<()> {
-    let mut data = [0u8; 262144];
+    let mut data = [0; 262144];
     samples::draw_bytes(&mut data, 1);
-    print_needs(out, &tables::NEEDS, &data)?;
-    print_others(out, &tables::OTHERS, &data)
+    print_listed(out, &data)
 }
 
-fn print_needs(out: &mut impl Write, rows: &[u64], data: &[u8]) -> io::Result<()> {
-    for row in rows {
-        print_four(out, call_of(*row), data)?;
+fn print_listed(out: &mut impl Write, data: &[u8]) -> io::Result<()> {
+    for row in &tables::NEEDS {
+        print_call(out, Call::from(*row), data)?;
+    }
+    for row in &tables::OTHERS {
+        print_call(out, Call::from(*row), data)?;
     }
     Ok(())
 }
 
-// The call of such a row: for the last row and texel, with as many words as there are.
-fn call_of(row: u64) -> [usize; 6] {
-    let width = (row / 100000 % 100000) as usize;
-    let height = (row % 100000) as usize;
-    let bytes = (row / 10000000000) as usize;
-    [
-        bytes,
-        4105,
-        width,
-        height,
-        less_one(width),
-        less_one(height),
-    ]
-}
-
-fn print_others(out: &mut impl Write, calls: &[[usize; 6]], data: &[u8]) -> io::Result<()> {
-    for call in calls {
-        print_four(out, *call, data)?;
+// A listed call at both depths, in both modes and in both orders.
+fn print_call(out: &mut impl Write, call: Call, data: &[u8]) -> io::Result<()> {
+    let data = &data[..call.bytes.min(data.len())];
+    for is2bpp in [false, true] {
+        for mode in MODES {
+            for order in ORDERS {
+                let picture = pvrtc::picture_of(call.width, call.height, is2bpp, mode, order);
+                print_answers(
+                    out,
+                    Case {
+                        picture,
+                        data,
+                        words: call.words,
+                        state: 2,
+                    },
+                    call.x,
+                    call.y,
+                )?;
+            }
+        }
     }
     Ok(())
 }
 
-// A listed call at both depths, and in both modes.
-fn print_four(out: &mut impl Write, c: [usize; 6], data: &[u8]) -> io::Result<()> {
-    print_call(out, c, false, GridMode::Rust, data)?;
-    print_call(out, c, false, GridMode::Stored, data)?;
-    print_call(out, c, true, GridMode::Rust, data)?;
-    print_call(out, c, true, GridMode::Stored, data)
-}
-
-// A listed call in each order.
-fn print_call(
-    out: &mut impl Write,
-    c: [usize; 6],
-    is2bpp: bool,
-    mode: GridMode,
-    data: &[u8],
-) -> io::Result<()> {
-    let p = blue_first(c[2], c[3], is2bpp, mode);
-    print_answers(out, c, p, data)?;
-    print_answers(out, c, red_first(p), data)
-}
-
-// The picture by the block call and by its other forms; then a row, and a texel of it.
-fn print_answers(out: &mut impl Write, c: [usize; 6], p: Picture, data: &[u8]) -> io::Result<()> {
-    let bytes = c[0];
-    let words = c[1];
-    let y = c[5];
-    let told = answer_of(Way::Told, p, data, bytes, words, 2);
-    out.write_all(b"call ")?;
-    print_name(out, p, bytes)?;
-    print_part(out, b", words", words as u64)?;
-    print_answer(out, told)?;
-    print_same(out, b"; named", told, Way::Named, p, data, bytes, words, 2)?;
-    print_same(out, b", plain", told, Way::Plain, p, data, bytes, words, 2)?;
-    print_part(out, b"; row", y as u64)?;
-    print_answer(out, answer_of(Way::Row(y), p, data, bytes, words, 2))?;
-    print_texel(out, p, data, bytes, c[4], y)?;
-    out.write_all(b"\n")
-}
-
-// What a way answers, where so many bytes of the data are lent, and so many drawn words, of which there are 4,105.
-fn answer_of(way: Way, p: Picture, data: &[u8], bytes: usize, words: usize, state: u64) -> Answer {
-    let mut image = [0u32; 4105];
-    let n = facts::least(bytes, data.len());
-    let m = facts::least(words, 4105);
-    answer_in(way, p, &data[..n], &mut image[..m], state)
-}
-
-fn answer_in(way: Way, p: Picture, data: &[u8], words: &mut [u32], state: u64) -> Answer {
-    samples::draw_words(words, state);
-    let number = decode(way, p, data, words);
-    Answer {
-        number: number,
-        sum: samples::sum_of_words(words),
+// The picture by the block call and by its other forms; then row y, and texel (x, y).
+fn print_answers(out: &mut impl Write, case: Case, x: usize, y: usize) -> io::Result<()> {
+    let (name, words) = (Name(case), case.words);
+    let told = case.answer(listing::decode_told);
+    let named = Same(case.answer(listing::decode_named) == told);
+    let plain = Same(case.answer(listing::decode_plain) == told);
+    let row = case.answer(|data, picture, row| pvrtc::decode_row(data, picture, y, row));
+    write!(
+        out,
+        "call {name}, words {words}: {told}; named {named}, plain {plain}; row {y}: {row}; texel {x}: "
+    )?;
+    match pvrtc::decode_texel(case.data, case.picture, x, y) {
+        Ok(word) => writeln!(out, "word {word}"),
+        Err(f) => writeln!(out, "refused {}", f.number()),
     }
-}
-
-// Goes the way. The answer is the refusal's number, as in all of these.
-fn decode(way: Way, p: Picture, data: &[u8], words: &mut [u32]) -> u64 {
-    match way {
-        Way::Told => number_of(decode_told(p, data, words)),
-        Way::Named => number_of(decode_named(p, data, words)),
-        Way::Plain => number_of(pvrtc::decode_pvrtc_plain(data, p, words)),
-        Way::Rows => decode_rows(false, p, data, words),
-        Way::Texels => decode_rows(true, p, data, words),
-        Way::Row(y) => number_of(pvrtc::decode_row(data, p, y, words)),
-    }
-}
-
-fn decode_told(p: Picture, data: &[u8], words: &mut [u32]) -> Decoded {
-    let mode = p.mode;
-    let order = p.order;
-    pvrtc::decode_pvrtc(data, p.width, p.height, words, p.is2bpp, mode, order)
-}
-
-fn decode_named(p: Picture, data: &[u8], words: &mut [u32]) -> Decoded {
-    let mode = p.mode;
-    let order = p.order;
-    if p.is2bpp {
-        pvrtc::decode_pvrtc_2bpp(data, p.width, p.height, words, mode, order)
-    } else {
-        pvrtc::decode_pvrtc_4bpp(data, p.width, p.height, words, mode, order)
-    }
-}
-
-// Each row into its place of the words, up to the first that is refused.
-fn decode_rows(by_texels: bool, p: Picture, data: &[u8], words: &mut [u32]) -> u64 {
-    let width = facts::least(p.width, words.len());
-    let mut at = 0;
-    for y in 0..p.height {
-        let number = decode_row_at(by_texels, p, data, y, at, words);
-        if number != 0 {
-            return number;
-        }
-        at = facts::least(at + width, words.len());
-    }
-    0
-}
-
-// Row y into the words from `at` on, by the row call or texel by texel.
-fn decode_row_at(
-    by_texels: bool,
-    p: Picture,
-    data: &[u8],
-    y: usize,
-    at: usize,
-    words: &mut [u32],
-) -> u64 {
-    let n = facts::least(at, words.len());
-    if by_texels {
-        decode_texels(p, data, y, &mut words[n..])
-    } else {
-        number_of(pvrtc::decode_row(data, p, y, &mut words[n..]))
-    }
-}
-
-// The texels of row y, up to the first that is refused.
-fn decode_texels(p: Picture, data: &[u8], y: usize, row: &mut [u32]) -> u64 {
-    let width = facts::least(p.width, row.len());
-    for x in 0..width {
-        let texel = pvrtc::decode_texel(data, p, x, y);
-        match texel {
-            Texel::Word(word) => {
-                row[x] = word;
-            }
-            Texel::Refused(f) => {
-                return pvrtc::refusal_number(f);
-            }
-        }
-    }
-    0
-}
-
-fn number_of(decoded: Decoded) -> u64 {
-    match decoded {
-        Decoded::Done => 0,
-        Decoded::Refused(f) => pvrtc::refusal_number(f),
-    }
-}
-
-// The depth, the mode, the size, the order and how many bytes are lent.
-fn print_name(out: &mut impl Write, p: Picture, bytes: usize) -> io::Result<()> {
-    let mode = p.mode;
-    let order = p.order;
-    if p.is2bpp {
-        out.write_all(b"2bpp ")?;
-    } else {
-        out.write_all(b"4bpp ")?;
-    }
-    print_mode(out, mode)?;
-    print_part(out, b"", p.width as u64)?;
-    print_part(out, b" x", p.height as u64)?;
-    print_order(out, order)?;
-    print_part(out, b", bytes", bytes as u64)
-}
-
-fn print_mode(out: &mut impl Write, mode: GridMode) -> io::Result<()> {
-    match mode {
-        GridMode::Rust => { out.write_all(b"Rust") }
-        GridMode::Stored => { out.write_all(b"stored") }
-    }
-}
-
-// Only red first is said.
-fn print_order(out: &mut impl Write, order: ChannelOrder) -> io::Result<()> {
-    match order {
-        ChannelOrder::BlueFirst => Ok(()),
-        ChannelOrder::RedFirst => { out.write_all(b", red first") }
-    }
-}
-
-fn print_answer(out: &mut impl Write, a: Answer) -> io::Result<()> {
-    print_part(out, b":", a.number)?;
-    print_part(out, b", sum", a.sum)
-}
-
-// Whether another way answers the same, on the same bytes and words.
-fn print_same(
-    out: &mut impl Write,
-    name: &[u8],
-    told: Answer,
-    way: Way,
-    p: Picture,
-    data: &[u8],
-    bytes: usize,
-    words: usize,
-    state: u64,
-) -> io::Result<()> {
-    let other = answer_of(way, p, data, bytes, words, state);
-    out.write_all(name)?;
-    if told.number == other.number && told.sum == other.sum {
-        out.write_all(b" same")
-    } else {
-        out.write_all(b" differs")
-    }
-}
-
-// What the texel call answers on the first so many bytes.
-fn print_texel(
-    out: &mut impl Write,
-    p: Picture,
-    data: &[u8],
-    bytes: usize,
-    x: usize,
-    y: usize,
-) -> io::Result<()> {
-    let n = facts::least(bytes, data.len());
-    let texel = pvrtc::decode_texel(&data[..n], p, x, y);
-    print_part(out, b"; texel", x as u64)?;
-    match texel {
-        Texel::Word(word) => print_part(out, b": word", word as u64),
-        Texel::Refused(f) => print_part(out, b": refused", pvrtc::refusal_number(f)),
-    }
-}
-
-// A name and a number of a line.
-fn print_part(out: &mut impl Write, name: &[u8], n: u64) -> io::Result<()> {
-    out.write_all(name)?;
-    write!(out, " {n}")
 }

@@ -1,72 +1,88 @@
 // The cases.
 
 // Widths and heights of pictures of sixteen blocks at 4bpp, one or two of them across or down: whole, then clipped.
-pub const NARROW_4BPP: [[u16; 2]; 8] = [
-    [4, 64],
-    [2, 61],
-    [64, 4],
-    [61, 3],
-    [8, 32],
-    [7, 30],
-    [32, 8],
-    [29, 5],
+pub static NARROW_4BPP: [(usize, usize); 8] = [
+    (4, 64),
+    (2, 61),
+    (64, 4),
+    (61, 3),
+    (8, 32),
+    (7, 30),
+    (32, 8),
+    (29, 5),
 ];
 
 // The same at 2bpp.
-pub const NARROW_2BPP: [[u16; 2]; 8] = [
-    [8, 64],
-    [5, 61],
-    [128, 4],
-    [123, 2],
-    [16, 32],
-    [10, 29],
-    [64, 8],
-    [59, 6],
+pub static NARROW_2BPP: [(usize, usize); 8] = [
+    (8, 64),
+    (5, 61),
+    (128, 4),
+    (123, 2),
+    (16, 32),
+    (10, 29),
+    (64, 8),
+    (59, 6),
 ];
 
 // Square and larger grids at 4bpp, of up to 256 blocks.
-pub const LARGE_4BPP: [[u16; 2]; 9] = [
-    [16, 16],
-    [13, 14],
-    [14, 13],
-    [4, 256],
-    [256, 4],
-    [8, 128],
-    [128, 8],
-    [30, 31],
-    [64, 64],
+pub static LARGE_4BPP: [(usize, usize); 9] = [
+    (16, 16),
+    (13, 14),
+    (14, 13),
+    (4, 256),
+    (256, 4),
+    (8, 128),
+    (128, 8),
+    (30, 31),
+    (64, 64),
 ];
 
 // The same at 2bpp.
-pub const LARGE_2BPP: [[u16; 2]; 9] = [
-    [16, 8],
-    [9, 7],
-    [32, 16],
-    [25, 14],
-    [28, 13],
-    [16, 64],
-    [128, 8],
-    [60, 31],
-    [128, 64],
+pub static LARGE_2BPP: [(usize, usize); 9] = [
+    (16, 8),
+    (9, 7),
+    (32, 16),
+    (25, 14),
+    (28, 13),
+    (16, 64),
+    (128, 8),
+    (60, 31),
+    (128, 64),
 ];
 
 // Pictures at 4bpp that are also decoded by the call with the depth in its name.
-pub const NAMED_4BPP: [[u16; 2]; 4] = [[4, 4], [3, 2], [5, 6], [15, 15]];
+pub static NAMED_4BPP: [(usize, usize); 4] = [(4, 4), (3, 2), (5, 6), (15, 15)];
 
 // The same at 2bpp.
-pub const NAMED_2BPP: [[u16; 2]; 4] = [[8, 4], [3, 2], [13, 5], [31, 15]];
+pub static NAMED_2BPP: [(usize, usize); 4] = [(8, 4), (3, 2), (13, 5), (31, 15)];
 
 // Pictures at 4bpp of which all rows are asked for.
-pub const ROWS_4BPP: [[u16; 2]; 7] = [[1, 1], [4, 4], [3, 16], [32, 2], [5, 6], [8, 16], [13, 15]];
+pub static ROWS_4BPP: [(usize, usize); 7] = [
+    (1, 1),
+    (4, 4),
+    (3, 16),
+    (32, 2),
+    (5, 6),
+    (8, 16),
+    (13, 15),
+];
 
 // The same at 2bpp.
-pub const ROWS_2BPP: [[u16; 2]; 7] = [[1, 1], [8, 4], [3, 16], [64, 1], [13, 5], [16, 8], [29, 13]];
+pub static ROWS_2BPP: [(usize, usize); 7] = [
+    (1, 1),
+    (8, 4),
+    (3, 16),
+    (64, 1),
+    (13, 5),
+    (16, 8),
+    (29, 13),
+];
 
 // The largest number of 64 bits.
 const MOST: usize = 0xffffffffffffffff;
 
 // Picture calls, each with how many bytes, how many words, the width at 4bpp, the width at 2bpp, and the height.
-pub const PICTURE_CALLS: [[usize; 5]; 47] = [
+pub static PICTURE_CALLS: [[usize; 5]; 47] = [
     // a side is 0; also where the other is too large, and where it has three blocks
     [96, 16, 0, 0, 4],
     [96, 16, 4, 4, 0],
@@ -124,7 +140,7 @@ pub const PICTURE_CALLS: [[usize; 5]; 47] = [
 ];
 
 // Row calls: the same, and the row.
-pub const ROW_CALLS: [[usize; 6]; 44] = [
+pub static ROW_CALLS: [[usize; 6]; 44] = [
     // a side is 0; also where the other is too large, where it has three blocks, where the row is short, and where it is outside
     [96, 16, 0, 0, 4, 0],
     [96, 16, 0, 0, 65537, 0],
@@ -182,7 +198,7 @@ pub const ROW_CALLS: [[usize; 6]; 44] = [
 ];
 
 // Picture calls with all the bytes that they need.
-pub const TALL_PICTURE_CALLS: [[usize; 5]; 5] = [
+pub static TALL_PICTURE_CALLS: [[usize; 5]; 5] = [
     // the image is short: a side of 65,536 is not too large, the others are
     [131072, 16, 1, 1, 65536],
     [131072, 16, 65536, 65536, 1],

@@ -1,60 +1,120 @@
 // The cases.
 
-// Widths and heights of pictures at 4bpp, and the bytes that they need, eight for each block.
-pub const SIZES_4BPP: [[u16; 3]; 13] = [
-    [4, 4, 8],
-    [1, 1, 8],
-    [3, 2, 8],
-    [4, 64, 128],
-    [64, 4, 128],
-    [8, 8, 32],
-    [5, 6, 32],
-    [13, 15, 128],
-    [14, 14, 128],
-    [15, 13, 128],
-    [8, 32, 128],
-    [32, 8, 128],
-    [64, 64, 2048],
+// Widths and heights of pictures at 4bpp.
+pub static SIZES_4BPP: [(usize, usize); 13] = [
+    (4, 4),
+    (1, 1),
+    (3, 2),
+    (4, 64),
+    (64, 4),
+    (8, 8),
+    (5, 6),
+    (13, 15),
+    (14, 14),
+    (15, 13),
+    (8, 32),
+    (32, 8),
+    (64, 64),
 ];
 
 // The same at 2bpp.
-pub const SIZES_2BPP: [[u16; 3]; 14] = [
-    [8, 4, 8],
-    [1, 1, 8],
-    [3, 2, 8],
-    [8, 64, 128],
-    [64, 4, 64],
-    [16, 8, 32],
-    [13, 5, 32],
-    [29, 13, 128],
-    [30, 14, 128],
-    [31, 15, 128],
-    [25, 16, 128],
-    [16, 32, 128],
-    [64, 8, 128],
-    [128, 64, 2048],
+pub static SIZES_2BPP: [(usize, usize); 14] = [
+    (8, 4),
+    (1, 1),
+    (3, 2),
+    (8, 64),
+    (64, 4),
+    (16, 8),
+    (13, 5),
+    (29, 13),
+    (30, 14),
+    (31, 15),
+    (25, 16),
+    (16, 32),
+    (64, 8),
+    (128, 64),
 ];
 
-// Kinds of words: the bits of a word that the kind decides, of bits 0 and 20 of the modulation, the mode, and whether A and B are
-// opaque; then those of them that are set. `print_kind` has their names.
-pub const KINDS: [[u64; 2]; 10] = [
-    [0, 0],
-    [0x0000000100000000, 0],
-    [0x0000000100100001, 0x0000000100000000],
-    [0x0000000100100001, 0x0000000100000001],
-    [0x0000000100100001, 0x0000000100100000],
-    [0x0000000100100001, 0x0000000100100001],
-    [0x8000800000000000, 0x8000800000000000],
-    [0x8000800000000000, 0],
-    [0x8000800000000000, 0x0000800000000000],
-    [0x8000800000000000, 0x8000000000000000],
+// A kind of words: its name, the bits of a word that it decides, and those of them that are set.
+pub struct Kind {
+    pub name: &'static str,
+    pub decided: u64,
+    pub set: u64,
+}
+
+// Bits 0 and 20 of the modulation, the mode, and whether A and B are opaque.
+const BIT_0: u64 = 1;
+
+const BIT_20: u64 = 1 << 20;
+
+const BITS: u64 = BIT_0 | BIT_20;
+
+const MODE: u64 = 1 << 32;
+
+const OPAQUE_A: u64 = 1 << 47;
+
+const OPAQUE_B: u64 = 1 << 63;
+
+const OPAQUE: u64 = OPAQUE_A | OPAQUE_B;
+
+pub static KINDS: [Kind; 10] = [
+    Kind {
+        name: "as drawn",
+        decided: 0,
+        set: 0,
+    },
+    Kind {
+        name: "mode 0",
+        decided: MODE,
+        set: 0,
+    },
+    Kind {
+        name: "mode 1",
+        decided: MODE | BITS,
+        set: MODE,
+    },
+    Kind {
+        name: "mode 1, bit 0",
+        decided: MODE | BITS,
+        set: MODE | BIT_0,
+    },
+    Kind {
+        name: "mode 1, bit 20",
+        decided: MODE | BITS,
+        set: MODE | BIT_20,
+    },
+    Kind {
+        name: "mode 1, bits 0 and 20",
+        decided: MODE | BITS,
+        set: MODE | BITS,
+    },
+    Kind {
+        name: "opaque",
+        decided: OPAQUE,
+        set: OPAQUE,
+    },
+    Kind {
+        name: "translucent",
+        decided: OPAQUE,
+        set: 0,
+    },
+    Kind {
+        name: "A opaque",
+        decided: OPAQUE,
+        set: OPAQUE_A,
+    },
+    Kind {
+        name: "B opaque",
+        decided: OPAQUE,
+        set: OPAQUE_B,
+    },
 ];
 
 // The largest number of 64 bits.
 const MOST: usize = 0xffffffffffffffff;
 
 // Calls, each with how many bytes, the width at 4bpp, the width at 2bpp, the height, and the texel asked for.
-pub const SIDES_AND_DATA: [[usize; 6]; 31] = [
+pub static SIDES_AND_DATA: [[usize; 6]; 31] = [
     // a side is 0; also where a side is too large, where 3 blocks stand the other way, and where the texel lies outside
     [8, 0, 0, 4, 0, 0],
     [8, 4, 4, 0, 0, 0],
@@ -93,7 +153,7 @@ pub const SIDES_AND_DATA: [[usize; 6]; 31] = [
 ];
 
 // The texel lies outside; also where the blocks are no power of two, and where a block goes on past the picture.
-pub const OUTSIDE: [[usize; 6]; 10] = [
+pub static OUTSIDE: [[usize; 6]; 10] = [
     [96, 16, 16, 8, 15, 7],
     [96, 16, 16, 8, 16, 0],
     [96, 16, 16, 8, 0, 8],

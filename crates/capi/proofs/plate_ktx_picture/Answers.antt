@@ -1,8 +1,8 @@
 -- `capi::plate_ktx_picture` meets its contract: C's number is the order's. Assumes nothing.
-use mathlib.Core.Path.{◌∙◌}
+use Rattle.std.proofs.Common.{◌∙◌}
 use Rattle.capi.proofs.plate_ktx_picture.Goals as goal
 
 pub returns : goal.returns
 returns c =
     let decoded = rw c.order_of.ensures at c.decode_ktx.ensures in
-    record { number = c.decoded_number.ensures ∙ decoded.number; words = decoded.words }
+    record { number = c.number_said.ensures ∙ decoded.number; words = decoded.words }

@@ -3,5 +3,4 @@ use Rattle.capi.proofs.Answers.{of-written}
 use Rattle.capi.proofs.plate_row.Goals as goal
 
 pub returns : goal.returns
-returns c =
-    of-written c.number_of.ensures (rw c.picture_of-p.ensures at c.decode_row.ensures)
+returns c = of-written c.number_said.ensures (rw c.picture_of-p.ensures at c.decode_row.ensures)

@@ -1,18 +1,12 @@
--- `convert::convert` meets its contract. Assumes nothing.
-use native.Mathlib.Omega.{arith}
-use Rattle.convert.proofs.Whole.{number_small, by-header, by-plate}
+-- `convert::convert` meets its contract: the TGA of a picture that is decoded, or the line of a refusal. Assumes nothing.
+use Rattle.convert.proofs.Whole.{picture-fits, by-tga, by-line}
 use Rattle.convert.proofs.convert.Goals as goal
 
-pub put_refused-requires : goal.put_refused-requires
-put_refused-requires c =
-    (number_small c.args.file.now c.read_file-reading.ensures c.in-Refused.is, omega (arith, c.requires.bytes))
+pub put_tga-requires : goal.put_tga-requires
+put_tga-requires c = picture-fits c.args.file.now c.args.out.now c.in-Ok.ensures c.requires c.decode_file.auto.image
 
-pub returns-in-Plate : goal.returns-in-Plate
-returns-in-Plate c =
-    let file = c.args.file.now in
-    by-plate file c.read_file-reading.ensures c.in-Plate.is c.least-start.ensures c.convert_plate.ensures
+pub returns-in-Ok : goal.returns-in-Ok
+returns-in-Ok c = by-tga c.args.file.now c.args.out.now c.in-Ok.ensures c.requires c.put_tga.ensures
 
-pub returns-in-Refused : goal.returns-in-Refused
-returns-in-Refused c =
-    let file = c.args.file.now in
-    by-header file c.read_file-reading.ensures c.in-Refused.is c.put_refused.ensures
+pub returns-in-Err : goal.returns-in-Err
+returns-in-Err c = by-line c.in-Err.ensures c.number.ensures c.put_refused.ensures

@@ -1,12 +1,12 @@
 -- `convert::put_tga_header` meets its contract. Assumes nothing.
-use mathlib.Core.Path.{ap, ◌∙◌}
-use mathlib.Core.List.{List}
-use Prim.Native.Nat.{ℕ}
+use Rattle.std.proofs.Common.{ℕ, List, ap, ◌∙◌}
 use Rattle.convert.specs.Output.{laid}
 use Rattle.convert.proofs.Layouts.{header-bytes}
 use Rattle.convert.proofs.put_tga_header.Goals as goal
 
 pub returns : goal.returns
 returns c =
-    let a = c.args in
-    c.put.ensures ∙ ap (λ (l : List ℕ). laid l a.out.now) (header-bytes a.w a.h)
+    let w = c.to_le_bytes.result in
+    let h = c.to_le_bytes-2.result in
+    c.put.ensures
+    ∙ ap (λ (l : List ℕ). laid l c.args.out.now) (header-bytes c.args.w c.args.h c.to_le_bytes.ensures c.to_le_bytes-2.ensures)

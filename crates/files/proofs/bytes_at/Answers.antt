@@ -1,7 +1,7 @@
 -- `files::bytes_at` meets its contract: what is read from the rest of the file is read from the file. Assumes nothing.
-use Rattle.std.proofs.Common.{◌≡◌, get_or, length-set, arith, ap, ◌∙◌, refl}
+use Rattle.std.proofs.Common.{◌≡◌, ℕ, List, get_or, drop, refl, ap, ◌∙◌, arith, length-set, get_or-drop}
 use Rattle.std.specs.Option.{unwrap_or}
-use Rattle.files.proofs.Fields.{rest-read, next-read}
+use Rattle.files.proofs.Fields.{rest-is, next-read}
 use Rattle.files.proofs.bytes_at.Goals as goal
 
 pub loop-k-preserved : goal.loop-k-preserved
@@ -13,6 +13,7 @@ loop-k-preserved g c =
 
 pub returns : goal.returns
 returns g c =
-    λ k h.
-    c.loop-k.invariant.read k (omega arith)
-    ∙ rest-read c.args.file.now c.args.at k _ _ c.get.ensures.lookup refl c.unwrap_or-rest.ensures
+    let file = c.args.file.now in
+    let at = c.args.at in
+    let rest : c.unwrap_or-rest.result.now ≡ drop at file = rest-is file at _ _ c.get.ensures.lookup refl c.unwrap_or-rest.ensures in
+    λ k h. c.loop-k.invariant.read k (omega arith) ∙ (ap (λ (l : List ℕ). get_or l k 0) rest ∙ get_or-drop at file k 0)

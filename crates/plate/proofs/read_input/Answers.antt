@@ -5,5 +5,10 @@ use Rattle.plate.proofs.read_input.Goals as goal
 
 pub loop-count-preserved : goal.loop-count-preserved
 loop-count-preserved g c =
-    let took = takes_more _ _ _ _ _ _ _ c.loop-count.invariant.2 c.read_at-last.ensures.front c.in-Bytes.ensures.took in
-    (omega (arith, c.in-Bytes.ensures.bound), omega arith, took, tt)
+    let bound = rw c.in-Some.is at c.in_ok-n.ensures.bound in
+    let took = rw c.in-Some.is at c.in_ok-n.ensures.took in
+    record {
+      within = omega (arith, bound);
+      same_length = omega arith;
+      took = takes_more _ _ _ _ _ _ _ c.loop-count.invariant.took c.read_at.ensures.front took;
+    }

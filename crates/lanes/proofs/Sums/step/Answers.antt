@@ -1,5 +1,5 @@
 -- `lanes::Sums::step` meets its contract, in the left half and in the right half. Assumes nothing.
-use native.Mathlib.Omega.{arith}
+use Rattle.std.proofs.Common.{arith}
 use Rattle.lanes.proofs.Linear.{Step, steps}
 use Rattle.lanes.proofs.Sums.step.Goals as goal
 use Rattle.lanes.proofs.Sums.step.Goals.{Start}

@@ -1,18 +1,9 @@
 -- `lanes::colors::lane_b` meets its contract, both where the colour is opaque and where it is not. Assumes nothing.
-use mathlib.Core.Path.{◌≡◌, ap, ap₂, ◌∙◌}
-use mathlib.Core.Bool.{cond}
-use Prim.Native.Nat.{ℕ, ◌+◌, ◌*◌, ◌/◌, ◌%◌}
-use native.Mathlib.Omega.{arith}
+use Rattle.std.proofs.Common.{◌≡◌, ℕ, ◌+◌, ◌*◌, ◌/◌, ◌%◌, cond, ap, ◌∙◌, ap₂, arith}
 use Rattle.word.specs.Word.{opaque, color_of}
 use Rattle.lanes.specs.Lanes.{color_lanes}
-use Rattle.lanes.proofs.Fields.{color-lanes, low-fields, opaque-b, clear-b}
+use Rattle.lanes.proofs.Fields.{color-lanes, opaque-b, clear-b}
 use Rattle.lanes.proofs.colors.lane_b.Goals as goal
-
-pub in_lanes-requires : goal.in_lanes-requires
-in_lanes-requires c =
-    let k = c.args.c in
-    let fields = c.pick.ensures ∙ ap₂ (cond (opaque k)) (opaque-b k) (clear-b k c.widen-y.ensures.0) in
-    low-fields c.args.order k (k % 32) (k % 16 * 2 + k / 8 % 2) (omega arith) (omega arith) fields c.pick-2.ensures
 
 pub returns : goal.returns
 returns c =

@@ -5,5 +5,7 @@ use Rattle.lanes.proofs.colors.summed.Goals as goal
 pub returns : goal.returns
 returns c =
     let a = c.args in
-    summed-is a.order a.d.now a.above a.own a.below c.word_a.ensures.0 c.word_a-2.ensures.0 c.word_a-3.ensures.0
-    c.word_b.ensures.0 c.word_b-2.ensures.0 c.word_b-3.ensures.0 c.downwards.ensures c.downwards-2.ensures
+    let u = c.colors_at-above.ensures.is in
+    let o = c.colors_at-own.ensures.is in
+    let e = c.colors_at-below.ensures.is in
+    summed-is a.order a.d.now a.at.above a.at.own a.at.below u.0 o.0 e.0 u.1 o.1 e.1 c.downwards.ensures c.downwards-2.ensures

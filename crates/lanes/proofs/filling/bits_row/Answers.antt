@@ -1,13 +1,8 @@
 -- `lanes::filling::bits_row` meets its contract: it computes the definition. Assumes nothing.
-use mathlib.Core.Path.{refl}
-use native.Mathlib.Omega.{arith}
-use Prim.Native.Nat.{◌+◌, ◌*◌, ◌/◌}
-use lib.Bits.{bit_and, and_le_r}
+use Rattle.std.proofs.Common.{◌+◌, ◌*◌, ◌/◌, bit_and, refl}
+use lib.Bits.{and_le_r}
 use Rattle.lanes.specs.Block2bpp.{bit_row}
 use Rattle.lanes.proofs.filling.bits_row.Goals as goal
-
-pub overflow_add-result : goal.overflow_add-result
-overflow_add-result c = omega (arith, and_le_r (c.args.b * 0x0101010101010101) 0x8040201008040201)
 
 pub returns : goal.returns
 unfolding bit_row

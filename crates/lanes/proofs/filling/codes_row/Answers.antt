@@ -1,23 +1,12 @@
 -- `lanes::filling::codes_row` meets its contract: it computes the definition. Assumes nothing.
-use mathlib.Core.Path.{refl}
-use native.Mathlib.Omega.{arith}
-use Prim.Native.Nat.{ℕ, ◌*◌, ◌≤◌}
-use lib.Bits.{bit_and, and_le_r}
+use Rattle.std.proofs.Common.{ℕ, ◌*◌, ◌≤◌, bit_and, refl, arith}
+use lib.Bits.{and_le_r}
 use Rattle.lanes.specs.Block2bpp.{code_row}
 use Rattle.lanes.proofs.filling.codes_row.Goals as goal
 
 -- what the two masks leave
 masked : (b : ℕ) → let v = b * 0x0000040010004001 in (bit_and v 0x0001000100010001 ≤ 0x0001000100010001) × (bit_and v 0x0002000200020002 ≤ 0x0002000200020002)
 masked b = let v = b * 0x0000040010004001 in (and_le_r v 0x0001000100010001, and_le_r v 0x0002000200020002)
-
-pub overflow_mul-result : goal.overflow_mul-result
-overflow_mul-result c = omega (arith, masked c.args.b)
-
-pub overflow_mul-result-2 : goal.overflow_mul-result-2
-overflow_mul-result-2 c = omega (arith, masked c.args.b)
-
-pub overflow_add-result : goal.overflow_add-result
-overflow_add-result c = omega (arith, masked c.args.b)
 
 pub returns : goal.returns
 unfolding code_row

@@ -1,8 +1,9 @@
 -- `lanes::filling::first_row` meets its contract: `Stored` has it for each of the 256 bytes. Assumes nothing.
-use mathlib.Core.Path.{ap, ◌∙◌}
-use lib.Dec.{eqb}
+use Rattle.std.proofs.Common.{ℕ, ◌+◌, ◌*◌, ◌/◌, ap, ◌∙◌, arith}
 use Rattle.lanes.proofs.Stored.{first_form, first-is}
 use Rattle.lanes.proofs.filling.first_row.Goals as goal
 
 pub returns : goal.returns
-returns c = ap first_form c.spread_row-v.ensures.0 ∙ first-is (eqb c.args.mode 1) c.args.b c.requires.0
+returns c =
+    let a = c.args in
+    ap (λ (n : ℕ). c.spread_row-v.result / 256 * 256 + n) c.adjust.ensures.0 ∙ ap first_form c.spread_row-v.ensures.0 ∙ first-is a.mode a.b (omega arith)

@@ -1,6 +1,5 @@
 -- `lanes::places::next_column` meets its contract, at the end of a row too. Assumes nothing.
-use mathlib.Core.Path.{sym}
-use native.Mathlib.Omega.{arith}
+use Rattle.std.proofs.Common.{sym, arith}
 use Rattle.grid.proofs.Torus.{next-inside, next-round}
 use Rattle.lanes.proofs.places.next_column.Goals as goal
 

@@ -1,6 +1,5 @@
 -- `lanes::places::spread` meets its contract, byte by byte. Assumes nothing.
-use Prim.Native.Nat.{◌%◌, ◌/◌}
-use native.Mathlib.Omega.{arith}
+use Rattle.std.proofs.Common.{◌/◌, ◌%◌, arith}
 use Rattle.grid.proofs.Spreading.{spread-lt, spread-add, spread-mod}
 use Rattle.lanes.proofs.places.spread.Goals as goal
 

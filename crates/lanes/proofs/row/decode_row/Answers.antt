@@ -1,20 +1,20 @@
 -- `lanes::row::decode_row` meets its contract. The loop keeps the window before block bx and the blocks laid so far. Assumes nothing.
-use Rattle.std.proofs.Common.{refl, arith}
+use Rattle.std.proofs.Common.{ℕ, refl, arith}
 use Rattle.paint.proofs.Sheets.{no_blocks}
 use Rattle.lanes.specs.Block.{in_block}
-use Rattle.lanes.proofs.Placing.{first-column, last-column, row-at, asked, in-column, starts, width_is}
-use Rattle.lanes.proofs.Sliding.{slide, block-seen, seen-part, said-is, nine_about, middle, texels, row_texel, part-fits, block-laid}
+use Rattle.lanes.proofs.Placing.{first-column, last-column, row-at, asked, starts, width_is}
+use Rattle.lanes.proofs.Sliding.{slide, block-seen, said-is, nine_about, middle, texels, row_texel, part-fits, block-laid}
 use Rattle.lanes.proofs.row.decode_row.Goals as goal
 
 pub block_at-left-requires : goal.block_at-left-requires
 block_at-left-requires g c =
     let p = c.requires.0 in
-    let asks = asked (row-at p c.row_addresses-addresses.ensures) 0 0 (last-column p.words) in record { placed = asks.0; in_column = asks.1 }
+    let asks = asked (row-at p c.row_addresses-addresses.ensures) 0 0 (last-column p.words) in record { placed = asks.0; in_data = asks.1 }
 
 pub block_at-own-requires : goal.block_at-own-requires
 block_at-own-requires g c =
     let p = c.requires.0 in
-    let asks = asked (row-at p c.row_addresses-addresses.ensures) 0 1 (first-column p.words) in record { placed = asks.0; in_column = asks.1 }
+    let asks = asked (row-at p c.row_addresses-addresses.ensures) 0 1 (first-column p.words) in record { placed = asks.0; in_data = asks.1 }
 
 pub loop-bx-init : goal.loop-bx-init
 loop-bx-init g c =
@@ -25,8 +25,8 @@ loop-bx-init g c =
     let r = row-at p c.row_addresses-addresses.ensures in (
       omega arith,
       record {
-        left = block-seen depth.stored depth.Good a.order d r 0 0 (last-column p.words) c.block_at-left.ensures;
-        own = block-seen depth.stored depth.Good a.order d r 0 1 (first-column p.words) c.block_at-own.ensures;
+        left = block-seen depth.stored depth.Good a.order d r 0 0 (last-column p.words) c.block_at-left.ensures.is c.block_at-left.ensures.good;
+        own = block-seen depth.stored depth.Good a.order d r 0 1 (first-column p.words) c.block_at-own.ensures.is c.block_at-own.ensures.good;
       },
       no_blocks a.row _ (row_texel a.order a.g a.by d) a.image.now,
     )
@@ -34,13 +34,11 @@ loop-bx-init g c =
 pub block_at-right-requires : goal.block_at-right-requires
 block_at-right-requires g c =
     let asks = asked (row-at c.requires.0 c.row_addresses-addresses.ensures) c.loop-bx.bx 2 c.next_column-next.ensures in
-    record { placed = asks.0; in_column = asks.1 }
+    record { placed = asks.0; in_data = asks.1 }
 
 pub fill-said-requires : goal.fill-said-requires
 fill-said-requires g c =
-    let window = c.loop-bx.invariant.1 in
-    let r = row-at c.requires.0 c.row_addresses-addresses.ensures in
-    (window.left.good, window.own.good, c.block_at-right.ensures.2, in-column r (seen-part window.own))
+    let window = c.loop-bx.invariant.1 in (window.left.good, window.own.good, c.block_at-right.ensures.good.1, window.own.there)
 
 pub lay_block-requires-clause-fits : goal.lay_block-requires-clause-fits
 lay_block-requires-clause-fits g c =
@@ -59,10 +57,11 @@ loop-bx-preserved g c =
     let half = g.met.M.Modulation.half_is in
     let r = row-at p.0 c.row_addresses-addresses.ensures in
     let window = c.loop-bx.invariant.1 in
-    let right = block-seen depth.stored depth.Good a.order d r bx 2 c.next_column-next.ensures c.block_at-right.ensures in
-    let said = c.fill-said.ensures (nine_about a.g a.by d bx) (said-is window.left) (said-is window.own) (said-is right) (middle r window.own) in
+    let right = block-seen depth.stored depth.Good a.order d r bx 2 c.next_column-next.ensures c.block_at-right.ensures.is c.block_at-right.ensures.good in
+    let said = c.fill-said.ensures (nine_about a.g a.by d bx) (said-is window.left) (said-is window.own) (said-is right) (middle window.own) in
     let starts = starts a.g.is2bpp (width_is c.HALF-width.ensures half p.1) c.num_blocks_x-bx-end.ensures c.loop-bx-test.true in
-    let block = in_block depth.HALF (λ y. depth.says (depth.row_of c.fill-said.result y)) c.loop-bx.left.column c.loop-bx.own.column c.block_at-right.result.column in
+    let says = λ (y : ℕ). depth.says (depth.row_of c.fill-said.result y) in
+    let block = in_block depth.HALF says c.loop-bx.left.column c.loop-bx.own.column c.block_at-right.result.column in
     let same = texels window right half (width_is c.HALF-width.ensures half refl) p.1 said in (
       omega (arith, c.loop-bx-test.true),
       slide window right,

@@ -1,4 +1,5 @@
 -- `lanes::row::lay_row` meets its contract. The loop keeps the two sums of place i, and that the words before it are laid. Assumes nothing.
+use Rattle.std.proofs.Common.{arith}
 use Rattle.lanes.proofs.Laying.{row-start, small-enough, half-small, made, word-laid, word_cut}
 use Rattle.lanes.proofs.row.lay_row.Goals as goal
 use Rattle.lanes.proofs.row.lay_row.Goals.{then-i-columns, else-i-columns}
@@ -26,6 +27,6 @@ loop-i-preserved g c =
     let a = c.step-sum_a.ensures in
     let b = c.step-sum_b.ensures in
     elim c.if-i-columns.branch [
-      | then-i-columns laid ↦ rw laid.image-is (word-laid i c.loop-i-test.true a b word laid.if-i-columns.true c.requires.columns_bound.1)
+      | then-i-columns laid ↦ rw laid.image-is (word-laid i c.loop-i-test.true a b word (omega (arith, laid.if-i-columns.true)) c.requires.columns_bound.1)
       | else-i-columns cut ↦ rw cut.image-is (word_cut i c.loop-i-test.true a b cut.if-i-columns.false)
     ]

@@ -1,5 +1,5 @@
 -- `lanes::row::lay_row` meets its contract. The loop keeps the two sums of place i, and that the words before it are laid. Assumes nothing.
-use Prim.Native.Nat.{◌-◌, ◌*◌}
+use Rattle.std.proofs.Common.{◌-◌, ◌*◌}
 use Rattle.lanes.specs.Block.{in_row}
 use Rattle.lanes.proofs.Laying.{RowLaid}
 use Rattle.lanes.proofs.row.lay_row.Given as goal

@@ -1,23 +1,27 @@
--- `levels::check::check_levels` meets its contract. Assumes nothing.
-use mathlib.Core.Path.{sym, ap, ◌∙◌}
+-- `levels::check::check_levels` meets its contract: the sides, then the number of levels. Assumes nothing.
+use Rattle.std.proofs.Common.{sym, arith}
 use Rattle.facts.proofs.Checks.{none_said, said-first, said-later}
+use Rattle.facts.proofs.Said.{at_exit}
+use Rattle.files.proofs.Answers.{past, stopped}
 use Rattle.pvrtc.specs.Refusals.{size_checks}
 use Rattle.levels.specs.Levels.{plate_in}
-use Rattle.levels.specs.Refusals.{decoded_number}
-use Rattle.levels.proofs.Answers.{refused-above}
+use Rattle.levels.specs.Numbers.{number-above}
 use Rattle.levels.proofs.check.check_levels.Goals as goal
 
-pub returns-in_default : goal.returns-in_default
-returns-in_default c =
-    let sides = size_checks (plate_in c.args.l) in
-    said-first sides _ tt c.check_sides-sides.ensures (refused-above _ c.in_default.is)
+pub returns-in_err-check_sides : goal.returns-in_err-check_sides
+returns-in_err-check_sides c =
+    rw (at_exit c.from_residual.ensures) (said-first (size_checks (plate_in c.args.l)) _ tt c.in_err-check_sides.ensures (number-above _))
 
-pub check_count-requires : goal.check_count-requires
-check_count-requires c =
-    let sides = size_checks (plate_in c.args.l) in
-    none_said sides tt (sym c.check_sides-sides.ensures ∙ ap decoded_number c.in-Done.is) 2
+pub has_too_many-requires : goal.has_too_many-requires
+has_too_many-requires c = none_said (size_checks (plate_in c.args.l)) tt (sym c.in_ok-check_sides.ensures) 2
+
+pub returns-in_err-refuse_if : goal.returns-in_err-refuse_if
+returns-in_err-refuse_if c =
+    rw (at_exit c.from_residual-in_err-refuse_if.ensures)
+    (said-later (size_checks (plate_in c.args.l)) _ tt c.in_ok-check_sides.ensures
+    (stopped _ _ c.has_too_many.ensures (number-above _) c.in_err-refuse_if.ensures))
 
 pub returns : goal.returns
 returns c =
-    let sides = size_checks (plate_in c.args.l) in
-    said-later sides _ tt (sym (ap decoded_number c.in-Done.is) ∙ c.check_sides-sides.ensures) c.check_count.ensures
+    said-later (size_checks (plate_in c.args.l)) _ tt c.in_ok-check_sides.ensures
+    (past _ _ c.has_too_many.ensures (omega arith) c.in_ok-refuse_if.ensures c.refuse_if-2.ensures)

@@ -1,19 +1,16 @@
--- `levels::check::check_size_word` meets its contract. Assumes nothing.
-use mathlib.Core.Bool.{not}
-use mathlib.Core.Path.{sym, ap, ◌∙◌}
-use borrow.Author.Tests.{lt-ltb, le-ltb, eq-eqb, ne_eqb}
-use Rattle.facts.proofs.Order.{holds-here, holds_later, none_left}
+-- `levels::check::check_size_word` meets its contract: the end of the file, then the word itself. Assumes nothing.
+use Rattle.std.proofs.Common.{ℕ, not, eqb, [], ◌∷◌, refl, ap, ◌∙◌, arith}
+use Rattle.facts.specs.Checks.{check, first_of}
+use Rattle.facts.proofs.Said.{at_exit}
+use Rattle.files.proofs.Answers.{past, stopped}
+use Rattle.levels.specs.Numbers.{number-above}
 use Rattle.levels.proofs.check.check_size_word.Goals as goal
 
-pub returns-then-file-level : goal.returns-then-file-level
-returns-then-file-level c = holds-here _ _ _ (lt-ltb _ _ c.if-file-level.true)
-
-pub returns-then-u32_at-level : goal.returns-then-u32_at-level
-returns-then-u32_at-level c =
-    holds_later _ _ _ (le-ltb _ _ c.if-file-level.false)
-    (holds-here _ _ _ (ap not (ne_eqb _ _ (λ e. c.if-u32_at-level.true (c.u32_at.ensures.0 ∙ e)))))
+pub returns-in_err-refuse_if : goal.returns-in_err-refuse_if
+returns-in_err-refuse_if c = rw (at_exit c.from_residual.ensures) (stopped _ _ refl (number-above _) c.in_err-refuse_if.ensures)
 
 pub returns : goal.returns
 returns c =
-    holds_later _ _ _ (le-ltb _ _ c.if-file-level.false)
-    (holds_later _ _ _ (ap not (eq-eqb _ _ (sym c.u32_at.ensures.0 ∙ c.if-u32_at-level.false))) none_left)
+    let need = c.args.level.need in
+    past _ _ refl (omega arith) c.in_ok-refuse_if.ensures
+    (c.refuse_if-2.ensures ∙ ap (λ (w : ℕ). first_of (check (not (eqb w need)) 36 ∷ [])) c.u32_at-word.ensures.0)

@@ -1,30 +1,22 @@
 -- `levels::kinds::ktx_levels` meets its contract. Assumes nothing.
-use mathlib.Core.Bool.{Bool}
-use mathlib.Core.Path.{◌≡◌}
-use Prim.Native.Nat.{ℕ}
-use lib.Dec.{ltb}
-use lib.ListN.{length}
-use borrow.Author.Tests.{lt-ltb, le-ltb}
-use Rattle.levels.proofs.Answers.{ktx-refused, ktx-cut, ktx-found}
+use Rattle.std.proofs.Common.{ℕ, ltb, [], ◌∷◌, length, ap, ◌∙◌}
+use Rattle.facts.specs.Checks.{check, first_of}
+use Rattle.facts.proofs.Said.{at_exit}
+use Rattle.levels.proofs.Answers.{by-refusal, ktx-refused, by-cut, ktx-found}
 use Rattle.levels.proofs.kinds.ktx_levels.Goals as goal
 
--- the key/value bytes end at the size word's place
-cut_at : {t : Bool} (len : ℕ) {place start : ℕ} → start ≡ place → ltb len start ≡ t → ltb len place ≡ t
-cut_at len e q = rw (← e) q
+pub returns-in_err-plate : goal.returns-in_err-plate
+returns-in_err-plate c = rw (at_exit c.from_residual.ensures) (ktx-refused c.args.file.now c.in_err-plate.ensures)
 
-pub returns-then-file-start : goal.returns-then-file-start
-returns-then-file-start c =
+pub returns-in_err-refuse_if : goal.returns-in_err-refuse_if
+returns-in_err-refuse_if c =
     let file = c.args.file.now in
-    ktx-cut file c.read_fields-fields.ensures c.in-Plate.is
-    (cut_at (length file) c.size_place-start.ensures.0 (lt-ltb _ _ c.if-file-start.true))
+    let at = ap (λ (n : ℕ). first_of (check (ltb (length file) n) 37 ∷ [])) c.size_place-start.ensures.0 in
+    rw (at_exit c.from_residual-in_err-refuse_if.ensures)
+    (by-refusal (by-cut file c.in_ok-plate.ensures (c.in_err-refuse_if.ensures ∙ at)))
 
-pub returns-in-Refused : goal.returns-in-Refused
-returns-in-Refused c =
+pub returns : goal.returns
+returns c =
     let file = c.args.file.now in
-    ktx-refused file c.read_fields-fields.ensures c.in-Refused.is
-
-pub returns-else-file-start : goal.returns-else-file-start
-returns-else-file-start c =
-    let file = c.args.file.now in
-    ktx-found file c.read_fields-fields.ensures c.in-Plate.is
-    (cut_at (length file) c.size_place-start.ensures.0 (le-ltb _ _ c.if-file-start.false)) c.level_count-count.ensures.0 c.size_place-start.ensures
+    let at = ap (λ (n : ℕ). first_of (check (ltb (length file) n) 37 ∷ [])) c.size_place-start.ensures.0 in
+    ktx-found file c.in_ok-plate.ensures (c.in_ok-refuse_if.ensures ∙ at) c.level_count.ensures.0 c.size_place-start.ensures

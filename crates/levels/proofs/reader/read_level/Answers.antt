@@ -1,18 +1,13 @@
 -- `levels::reader::read_level` meets its contract. Assumes nothing.
-use Rattle.levels.proofs.Whole.{by-header, start-found, by-own}
+use Rattle.facts.proofs.Said.{at_exit}
+use Rattle.levels.proofs.Whole.{by-header, by-own}
 use Rattle.levels.proofs.reader.read_level.Goals as goal
 
 pub describe-requires : goal.describe-requires
-describe-requires c =
-    let a = c.args in
-    start-found a.file.now a.k c.read_levels-found.ensures c.in-Levels.is
+describe-requires c = c.in_ok-levels.ensures.low
 
-pub returns-in-Levels : goal.returns-in-Levels
-returns-in-Levels c =
-    let a = c.args in
-    by-own a.file.now a.k c.read_levels-found.ensures c.in-Levels.is c.describe.ensures
+pub returns-in_err-levels : goal.returns-in_err-levels
+returns-in_err-levels c = rw (at_exit c.from_residual.ensures) (by-header c.args.file.now c.args.k c.in_err-levels.ensures)
 
-pub returns-in-Refused : goal.returns-in-Refused
-returns-in-Refused c =
-    let a = c.args in
-    by-header a.file.now a.k c.read_levels-found.ensures c.in-Refused.is
+pub returns : goal.returns
+returns c = by-own c.args.file.now c.args.k c.in_ok-levels.ensures c.describe.ensures

@@ -32,6 +32,9 @@ whole c = length-take-le c.args.p.width c.args.row.now (roomy c)
 pub overflow_sub-g : goal.overflow_sub-g
 overflow_sub-g c = rw c.grid_of-g.ensures (some-across (stands (ok_of (goal.at.overflow_sub-g c).In_ok-check)))
 
+pub invariant_of-w : goal.invariant_of-w
+invariant_of-w c = record { stands = stands-as (ok_of (goal.at.invariant_of-w c).In_ok-check) c.grid_of-g.ensures }
+
 pub first_words-nine-requires : goal.first_words-nine-requires
 first_words-nine-requires c =
     let a = c.args in
@@ -39,7 +42,7 @@ first_words-nine-requires c =
     let some = some-across (stands ok) in
     let row = (block_in ok 0 a.y (width_above a.p ok.sides) (row_inside a.p a.y (length a.row.now) ok.inside)).down in
     let grid = c.grid_of-g.ensures in
-    (stands-as ok grid, rw grid (record { across = omega arith; down = row }), omega arith)
+    (rw grid (record { across = omega arith; down = row }), omega arith)
 
 pub slice_bounds-word-items-end : goal.slice_bounds-word-items-end
 slice_bounds-word-items-end c = roomy (goal.at.slice_bounds-word-items-end c).In_ok-check
@@ -67,7 +70,7 @@ pub next_words-next-requires : goal.next_words-next-requires
 next_words-next-requires c =
     let k = (goal.at.next_words-next-requires c).In_ok-check in
     let grid = c.grid_of-g.ensures in
-    (stands-as (ok_of k) grid, rw c.block_width-width.ensures (block k grid c.loop-x-test.true), omega arith)
+    (rw c.block_width-width.ensures (block k grid c.loop-x-test.true), omega arith)
 
 pub texels_in-requires : goal.texels_in-requires
 texels_in-requires c =

@@ -4,4 +4,4 @@ use Rattle.lanes.proofs.filling.WeightsModulation.fill.Goals as goal
 
 pub returns : goal.returns
 returns c of el eo er m =
-    rw (c.fill_rows.ensures, c.read_rule-rule.ensures.0, el, eo, er, ← m.above, ← m.own, ← m.below) (is_said of)
+    rw (c.fill_rows.ensures, c.read_rule.ensures.0, el, eo, er, ← m.above, ← m.own, ← m.below) (is_said of)
