@@ -104,7 +104,7 @@ pub fn previous_block(c: usize, side: usize) -> usize
     c.wrapping_sub(1) % side
 }
 
-// The block after block c of a side, round the torus.
+// The block after block c of a side, round the torus. The two names say more than one with a step of 1 or -1 would.
 pub fn next_block(c: usize, side: usize) -> usize
     requires { Power side }
     ensures { result ≡ beside side c 2 }

@@ -49,7 +49,7 @@ pub fn row_addresses(g: Grid, by: usize) -> RowAddresses
 {
     let smaller = g.across.min(g.down);
     RowAddresses {
-        smaller: smaller,
+        smaller,
         above: grid::morton_index_by_table(0, grid::previous_block(by, g.down), smaller),
         own: grid::morton_index_by_table(0, by, smaller),
         below: grid::morton_index_by_table(0, grid::next_block(by, g.down), smaller),

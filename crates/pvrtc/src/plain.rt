@@ -79,7 +79,7 @@ fn decode_block_row(
     }
 }
 
-// All texels of a picture into lent words.
+// All texels of a picture into lent words. The loop stands here again on purpose: this is the form to hold the fast one against (docs/DECISIONS.md).
 pub fn decode_pvrtc_plain(data: &[u8], p: Picture, image: &mut [u32]) -> Result<(), Refusal>
     ensures { BlockDecoded p «data».now image.old image.new result }
 {

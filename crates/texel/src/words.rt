@@ -41,7 +41,8 @@ fn word_at(w: GridWords<'_>, z: usize) -> PVRTCTexelInfo
     word::read_word(&w.bytes[8 * z..], w.grid.is2bpp)
 }
 
-// The nine words about block (bx, by), in row order: their addresses by quartering.
+// The nine words about block (bx, by), in row order: their addresses by quartering. bx and by are counted by the callers' loops, so a struct of them
+// would be made anew at each turn.
 pub fn nine_words(w: GridWords<'_>, bx: usize, by: usize) -> [PVRTCTexelInfo; 9]
     requires { InGrid w.grid bx by }
     ensures { result ≡ nine_about w.entry.grid w.entry.bytes.now bx by }
