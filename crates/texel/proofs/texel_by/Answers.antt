@@ -4,15 +4,9 @@ use Rattle.texel.proofs.Across.{low-across}
 use Rattle.texel.proofs.Made.{texel}
 use Rattle.texel.proofs.texel_by.Goals as goal
 
-pub sum_across-requires : goal.sum_across-requires
-sum_across-requires c = c.requires.1.a
-
 pub scale-a-requires : goal.scale-a-requires
 scale-a-requires c =
     low-across c.args.nine.is2bpp c.args.px c.args.window.a c.requires.0.across c.requires.1.a c.shares_across-row.ensures c.sum_across.ensures
-
-pub sum_across-requires-2 : goal.sum_across-requires-2
-sum_across-requires-2 c = c.requires.1.b
 
 pub scale-b-requires : goal.scale-b-requires
 scale-b-requires c =

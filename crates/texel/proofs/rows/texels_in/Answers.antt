@@ -4,9 +4,6 @@ use Rattle.facts.proofs.Tab.{filled_none, filled_more, filled-end}
 use Rattle.texel.proofs.Across.{window-low, with-texels}
 use Rattle.texel.proofs.rows.texels_in.Goals as goal
 
-pub sum_down-window-requires : goal.sum_down-window-requires
-sum_down-window-requires c = c.requires.2.small
-
 pub loop-i-init : goal.loop-i-init
 loop-i-init c = filled_none _ _
 

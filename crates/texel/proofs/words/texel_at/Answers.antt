@@ -2,9 +2,6 @@
 use Rattle.texel.proofs.Needed.{needed-read, texel-needed, place}
 use Rattle.texel.proofs.words.texel_at.Goals as goal
 
-pub needed_words-nine-requires : goal.needed_words-nine-requires
-needed_words-nine-requires c = rw c.block_width-width.ensures c.requires
-
 pub texel_in-requires : goal.texel_in-requires
 texel_in-requires c =
     let a = c.args in
