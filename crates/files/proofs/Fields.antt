@@ -97,7 +97,9 @@ rest-is file at (Some x) none part z e =
 pub four-read : (file : List ℕ) (at : ℕ) (bytes : List ℕ) → ((k : ℕ) → k < 4 → get_or bytes k 0 ≡ get_or file (at + k) 0)
     → from_le_bytes w32 bytes ≡ u32_at file at
 unfolding u32_at
-four-read file at bytes e = let none : at + 0 ≡ at = omega arith in rw (e 0 (omega arith), none, e 1 (omega arith), e 2 (omega arith), e 3 (omega arith)) (omega arith)
+four-read file at bytes e =
+    let none : at + 0 ≡ at = omega arith in
+    rw (e 0 (omega arith), none, e 1 (omega arith), e 2 (omega arith), e 3 (omega arith)) (omega arith)
 
 pub eight-read : (file : List ℕ) (at : ℕ) (bytes : List ℕ) → ((k : ℕ) → k < 8 → get_or bytes k 0 ≡ get_or file (at + k) 0)
     → from_le_bytes w64 bytes ≡ u64_at file at
