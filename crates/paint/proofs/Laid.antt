@@ -1,5 +1,6 @@
 -- How a rectangle grows: by a word, by columns, by rows. Assumes nothing.
-use Rattle.std.proofs.Common.{◌≡◌, refl, sym, ap, ap₂, ◌∙◌, List, ⊎_elim, ℕ, ◌+◌, ◌-◌, ◌*◌, ◌<◌, ◌≤◌, mul-le-mul_right, arith, length, get_or, set, ◌++◌, take, drop, length-take}
+use Rattle.std.proofs.Common.{◌≡◌, refl, sym, ap, ap₂, ◌∙◌, List, ⊎_elim, ℕ, ◌+◌, ◌-◌, ◌*◌, ◌<◌, ◌≤◌, mul-le-mul_right, arith, length, get_or, set, ◌++◌}
+use Rattle.std.proofs.Common.{take, drop, length-take}
 use Rattle.std.proofs.Common.{length-set, get_or-set_same, get_or-set_other}
 use Rattle.std.proofs.lemmas.Grind.{elements}
 use Rattle.facts.proofs.Numbers.{lt-or-le}

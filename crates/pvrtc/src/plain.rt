@@ -42,7 +42,8 @@ fn decode_block(
 )
     requires in_grid { InGrid w.grid bx by }
     requires fits { Fits part (length image.old) × (part.width ≤ block_width w.grid.is2bpp) × (part.height ≤ 4) }
-    ensures { image.new ≡ on_sheet part (λ x y. grid_texel order w.entry.grid w.entry.bytes.now (bx * block_width w.entry.grid.is2bpp + x) (by * 4 + y)) image.old }
+    ensures { image.new
+        ≡ on_sheet part (λ x y. grid_texel order w.entry.grid w.entry.bytes.now (bx * block_width w.entry.grid.is2bpp + x) (by * 4 + y)) image.old }
 {
     let is2bpp = w.grid.is2bpp;
     let nine = texel::nine_words(w, bx, by);

@@ -65,7 +65,9 @@ fn rule_at(word: PVRTCTexelInfo, px: usize, py: usize) -> Fill
 // The weight at the place (px, py) of the middle block of nine. A struct of px and py would be made anew at each turn of the callers' loops.
 pub fn weight_at(nine: NineWords<'_>, px: usize, py: usize) -> u32
     requires { Place nine.is2bpp px py }
-    ensures value { result ≡ filled (half nine.entry.is2bpp) (rule_at (nine_of nine.entry.words.now 1 1) px py) (nine_of nine.entry.words.now) (px + block_width nine.entry.is2bpp) (py + 4) }
+    ensures value { result
+        ≡ filled (half nine.entry.is2bpp) (rule_at (nine_of nine.entry.words.now 1 1) px py) (nine_of nine.entry.words.now)
+        (px + block_width nine.entry.is2bpp) (py + 4) }
     ensures bound { result ≤ 8 }
 {
     let rule = rule_at(nine.words[4], px, py);
