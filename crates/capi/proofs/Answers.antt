@@ -1,5 +1,5 @@
 -- How answers become numbers, and come back from them. Assumes nothing.
-use Rattle.std.proofs.Common.{◌≡◌, refl, sym, ◌∙◌, cond, List, ℕ, ◌*◌, ◌/◌, ◌%◌, ◌<◌, arith, eqb, drop, eqb-true, ne_eqb, Result, Ok, Err}
+use Rattle.std.proofs.Common.{◌≡◌, ℕ, ◌*◌, ◌/◌, ◌%◌, ◌<◌, cond, eqb, List, drop, Ok, Err, Result, sym, refl, ◌∙◌, arith, ne_eqb, eqb-true}
 use Rattle.facts.proofs.Lists.{choice}
 use Rattle.grid.specs.Grid.{block_address}
 use Rattle.texel.proofs.Range.{texel-below}

@@ -1,5 +1,5 @@
 -- What C is told of a KTX file's header, by what the reader answers. Assumes nothing.
-use Rattle.std.proofs.Common.{◌≡◌, refl, cond, List, ℕ, eqb, Ok, Err}
+use Rattle.std.proofs.Common.{◌≡◌, ℕ, cond, eqb, List, Ok, Err, refl}
 use Rattle.ktx.proofs.Answers.{of-plate}
 use Rattle.ktx.specs.Header.{number_of, HeaderRead}
 use Rattle.ktx.specs.Numbers.{number-above}

@@ -1,5 +1,5 @@
 -- What C is told of a level, by what is described of it. Assumes nothing.
-use Rattle.std.proofs.Common.{◌≡◌, refl, sym, ap, ◌∙◌, cond, List, ℕ, eqb, Ok, Err}
+use Rattle.std.proofs.Common.{◌≡◌, ℕ, cond, eqb, List, Ok, Err, sym, refl, ap, ◌∙◌}
 use Rattle.levels.specs.Calls.{LevelRead}
 use Rattle.levels.specs.Numbers.{number-above}
 use Rattle.levels.specs.Refusals.{number_of}

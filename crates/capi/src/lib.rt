@@ -88,7 +88,7 @@ fn refused_field<E: Numbered>(f: E, field: u32) -> u64
     if field == 0 { f.number() } else { 0 }
 }
 
-// The mode by C's number: 0 is the Rust's, any other the stored one.
+// The mode by C's number: 0 is the Rust's, any other the stored one. It and the order are another crate's: only that one could give them a `From`.
 fn mode_of(mode: u32) -> GridMode
     ensures { result ≡ mode_of mode }
 {

@@ -1,9 +1,5 @@
 -- How the promise of a conversion is met, and that no two outcomes meet it. Assumes nothing.
-use mathlib.Core.Path.{◌≡◌, sym, ap, ◌∙◌}
-use mathlib.Core.List.{List, ◌++◌}
-use Prim.Native.Nat.{ℕ, ◌*◌, ◌/◌, ◌%◌, ◌<◌}
-use native.Mathlib.Omega.{arith}
-use borrow.Author.Tests.{ne_eqb}
+use Rattle.std.proofs.Common.{◌≡◌, ℕ, ◌*◌, ◌/◌, ◌%◌, ◌<◌, List, ◌++◌, sym, ap, ◌∙◌, arith, ne_eqb}
 use Rattle.facts.proofs.Tab.{tab-same}
 use Rattle.pvrtc.specs.declared.Picture.{Picture}
 use Rattle.files.specs.Fields.{byte_of}

@@ -1,11 +1,5 @@
 -- What a file says, by the kind that it is taken for. Assumes nothing.
-use mathlib.Core.Path.{◌≡◌, refl}
-use mathlib.Core.Bool.{Bool, true, false, cond}
-use mathlib.Core.List.{List, ◌++◌}
-use Prim.Native.Nat.{ℕ, ◌+◌, ◌≤◌}
-use native.Mathlib.Omega.{arith}
-use lib.Dec.{T}
-use lib.ListN.{length}
+use Rattle.std.proofs.Common.{◌≡◌, ℕ, ◌+◌, ◌≤◌, Bool, true, false, cond, T, List, ◌++◌, length, refl, arith}
 use Rattle.facts.specs.Checks.{numbered}
 use Rattle.files.specs.Reading.{Says}
 use Rattle.files.proofs.Starts.{start-before}

@@ -1,9 +1,5 @@
 -- Bytes laid in front of lent ones, from the first on. Assumes nothing.
-use mathlib.Core.Path.{◌≡◌, ◌∙◌}
-use mathlib.Core.List.{List}
-use Prim.Native.Nat.{ℕ, ◌≤◌}
-use native.Mathlib.Omega.{arith}
-use lib.ListN.{length, take, drop, length-append, length-drop}
+use Rattle.std.proofs.Common.{◌≡◌, ℕ, ◌≤◌, List, length, take, drop, ◌∙◌, arith, length-append, length-drop}
 use lib.Seq.{take-append_seam}
 use Rattle.convert.specs.Output.{laid}
 

@@ -1,8 +1,5 @@
 -- Converting with or without room has one outcome. Assumes nothing.
-use mathlib.Core.Path.{◌≡◌, refl, sym, ◌∙◌}
-use mathlib.Core.Bool.{Bool, true, false}
-use mathlib.Core.List.{List}
-use Prim.Native.Nat.{ℕ}
+use Rattle.std.proofs.Common.{◌≡◌, ℕ, Bool, true, false, List, sym, refl, ◌∙◌}
 use Rattle.convert.specs.Output.{roomy, ConvertedInRoom}
 use Rattle.convert.proofs.Answers.{one-converted}
 

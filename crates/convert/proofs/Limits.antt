@@ -1,11 +1,5 @@
 -- What the program's limits say, and what is known of a plate that keeps them. Assumes nothing.
-use mathlib.Core.Path.{◌≡◌, ap, ◌∙◌}
-use mathlib.Core.Bool.{Bool, true, false, cond}
-use Prim.Native.Nat.{ℕ, ◌*◌, ◌≤◌}
-use native.Mathlib.Nat.{mul-le-mul, mul-le-mul_left}
-use native.Mathlib.Omega.{arith}
-use lib.Dec.{eqb, ltb}
-use borrow.Author.Tests.{ltb-false, le-ltb}
+use Rattle.std.proofs.Common.{◌≡◌, ℕ, ◌*◌, ◌≤◌, Bool, true, false, cond, eqb, ltb, ap, ◌∙◌, mul-le-mul, mul-le-mul_left, arith, ltb-false, le-ltb}
 use Rattle.facts.specs.Checks.{first_of, condition}
 use Rattle.facts.proofs.Checks.{none_said, first-append}
 use Rattle.facts.proofs.Or.{or_left, or_right}

@@ -1,13 +1,7 @@
 -- Which number the program says of a file, and how long its output is. Assumes nothing.
-use mathlib.Core.Path.{◌≡◌, refl, sym, ap, ◌∙◌}
-use mathlib.Core.Bool.{Bool, true, false, cond}
-use mathlib.Core.List.{List, [], ◌∷◌, ◌++◌}
-use mathlib.Core.Logic.{◌↔◌}
-use Prim.Native.Nat.{ℕ, ◌+◌, ◌*◌, ◌/◌, ◌%◌, ◌<◌, ◌≤◌}
-use native.Mathlib.Omega.{arith}
-use lib.Dec.{eqb, ltb}
-use lib.ListN.{length, take}
-use borrow.Author.Tests.{eqb-true, eqb-false}
+use Rattle.std.proofs.Common.{◌≡◌, ℕ, ◌+◌, ◌*◌, ◌/◌, ◌%◌, ◌<◌, ◌≤◌, Bool, true, false, cond, eqb, ltb, ◌↔◌, List, [], ◌∷◌, ◌++◌, length, take, sym, refl, ap}
+use Rattle.std.proofs.Common.{◌∙◌, arith, eqb-true}
+use borrow.Author.Tests.{eqb-false}
 use Rattle.facts.specs.Checks.{first_of, Given}
 use Rattle.facts.proofs.Checks.{first-append, both-none, exactly-when}
 use Rattle.convert.specs.Output.{says_of, header_refusal, stored_in, plate_of, level_data, refused_text, refused_line, tga, output, Converted}

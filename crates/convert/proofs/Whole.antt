@@ -1,13 +1,5 @@
 -- From a reader's answer to what is written for the whole file. Assumes nothing.
-use mathlib.Core.Path.{◌≡◌, refl, sym, ap, ◌∙◌}
-use mathlib.Core.Bool.{false}
-use mathlib.Core.List.{List}
-use Prim.Native.Nat.{ℕ, ◌/◌, ◌%◌, ◌≤◌}
-use native.Mathlib.Omega.{arith}
-use lib.Dec.{eqb}
-use lib.ListN.{length, get_or}
-use borrow.Author.Tests.{ne_eqb}
-use Rattle.std.specs.Prelude.{cond, Result, Ok, Err}
+use Rattle.std.proofs.Common.{◌≡◌, ℕ, ◌/◌, ◌%◌, ◌≤◌, false, cond, eqb, List, length, get_or, Ok, Err, Result, sym, refl, ap, ◌∙◌, arith, ne_eqb}
 use Rattle.facts.specs.Checks.{first_of}
 use Rattle.files.specs.Reading.{Says, Shown}
 use Rattle.files.specs.declared.Stored.{Stored}

@@ -140,6 +140,7 @@ fn put_words(words: &[u32], out: &mut [u8])
     requires { length out.old ≡ 4 * length words.now }
     ensures { out.new ≡ tab (λ i. byte_of (get_or words.now (i / 4) 0) (i % 4)) (4 * length words.now) }
 {
+    // not by `chunks_exact_mut`: of the bytes that it lends, the library says nothing afterwards
     for (i, byte) in out.iter_mut().enumerate() {
         *byte = files::byte_of(words[i / 4], i % 4);
     }

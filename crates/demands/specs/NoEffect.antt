@@ -57,6 +57,6 @@ pub record LaterUnread : Type 0 where
       → (r : Result KtxPlate KtxHeaderRefusal) → KtxHeaderRead file r ↔ KtxHeaderRead (file ++ more) r
   pub ktx-picture : (file more : List ℕ) → payload_offset file + need (ktx.plate_of file) ≤ length file
       → (order : ChannelOrder) (old new : List ℕ) (r : Result (Unit {0}) KtxRefusal) → KtxDecoded order file old new r
-          ↔ KtxDecoded order (file ++ more) old new r
+      ↔ KtxDecoded order (file ++ more) old new r
   pub c-picture : (file more : List ℕ) → payload_offset file + need (ktx.plate_of file) ≤ length file
       → (order : ChannelOrder) (old new : List ℕ) (n : ℕ) → WroteKtx order file old new n ↔ WroteKtx order (file ++ more) old new n

@@ -1,7 +1,7 @@
 // Laws of numbers, lists, finite tests, tables, sums and checks are in specs/ and proofs/. Here stands what several crates compute.
 #![tactic(auto)]
 
-ghost use Rattle.std.specs.Prelude.{◌≡◌, ℕ, ◌<◌, [], ◌∷◌, min};
+ghost use Rattle.std.specs.Prelude.{◌≡◌, ℕ, ◌<◌, [], ◌∷◌};
 ghost use Rattle.facts.specs.Checks.{check, number_said, Says};
 
 // Why a call refuses. The documents give each reason a number: none has 0, which says that nothing is refused, and no two have the same.
@@ -32,11 +32,4 @@ pub fn refuse_if<E: Numbered>(holds: bool, f: E) -> Result<(), E>
     ensures { Says E.number result (check holds (E.number f) ∷ []) }
 {
     if holds { Err(f) } else { Ok(()) }
-}
-
-// The smaller of two numbers.
-pub fn least(a: usize, b: usize) -> usize
-    ensures { result ≡ min a b }
-{
-    if a < b { a } else { b }
 }

@@ -1,11 +1,5 @@
 -- How a reader's answer is met, and what it gives. Assumes nothing.
-use mathlib.Core.Path.{◌≡◌, refl, sym, ap, ◌∙◌}
-use mathlib.Core.Bool.{Bool, true, false, cond, ◌&&◌}
-use mathlib.Core.List.{List, [], ◌∷◌}
-use Prim.Native.Nat.{ℕ, ◌<◌}
-use native.Mathlib.Omega.{arith}
-use lib.Dec.{T, ltb, ltb→lt, lt→ltb}
-use Rattle.std.specs.Prelude.{Result, Ok, Err}
+use Rattle.std.proofs.Common.{◌≡◌, ℕ, ◌<◌, Bool, true, false, cond, ◌&&◌, T, ltb, List, [], ◌∷◌, Ok, Err, Result, sym, refl, ap, ◌∙◌, arith, ltb→lt, lt→ltb}
 use Rattle.facts.specs.Checks.{Check, check, first_of}
 use Rattle.facts.proofs.Finite.{and_left, and_right}
 use Rattle.facts.proofs.Said.{same-answer}

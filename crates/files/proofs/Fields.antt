@@ -1,18 +1,12 @@
 -- A number in a file depends on its own bytes, and so on none behind them. Assumes nothing.
-use mathlib.Core.Path.{◌≡◌, refl, sym, ap, ◌∙◌}
-use mathlib.Core.Bool.{Bool, true, false, not}
-use mathlib.Core.List.{List, ◌++◌}
-use mathlib.Core.Logic.{⊎_elim}
-use Prim.Native.Nat.{ℕ, zero, suc, ◌^◌, ◌+◌, ◌-◌, ◌*◌, ◌/◌, ◌%◌, ◌<◌, ◌≤◌, min}
-use native.Mathlib.Nat.{pow-le-pow_right, zero-lt-suc, div-eq_of_lt, add_assoc, div-one, div-div-eq-div-mul, div-add-mod', mod-eq_of_lt}
-use native.Mathlib.Omega.{arith}
-use lib.Dec.{T}
-use lib.ListN.{length, get_or, take, drop, length-drop, drop_of_length-le, get_or-append}
+use Rattle.std.proofs.Common.{◌≡◌, ℕ, zero, suc, ◌+◌, ◌-◌, ◌*◌, ◌/◌, ◌%◌, ◌^◌, ◌<◌, ◌≤◌, min, Bool, true, false, not, T, ◌≢◌, List, [], ◌++◌, length, get_or}
+use Rattle.std.proofs.Common.{take, drop, set, Some, None, Option, sym, refl, ap, ◌∙◌, ⊎_elim, add_assoc, mod-eq_of_lt, zero-lt-suc, div-add-mod', div-one}
+use Rattle.std.proofs.Common.{arith, length-drop, drop_of_length-le, get_or-drop, take_all, get_or-set_other, get_or-set_same, ext_get_or, Bor, below_more}
+use native.Mathlib.Nat.{pow-le-pow_right, div-eq_of_lt, div-div-eq-div-mul}
+use lib.ListN.{get_or-append}
 use Rattle.std.specs.Slice.{IsGetRangeResult}
 use Rattle.std.specs.Option.{unwrap_or}
 use Rattle.std.specs.Int.{to_le_bytes, from_le_bytes, w32, w64}
-use Rattle.std.proofs.Common.{Option, None, Some, Bor, [], ◌≢◌, below_more, set, get_or-set_other, get_or-set_same}
-use lib.Seq.{ext_get_or, get_or-drop, take_all}
 use Rattle.facts.specs.Finite.{all_below}
 use Rattle.facts.proofs.Finite.{below}
 use Rattle.facts.proofs.Numbers.{lt-or-le}
@@ -103,7 +97,9 @@ rest-is file at (Some x) none part z e =
 pub four-read : (file : List ℕ) (at : ℕ) (bytes : List ℕ) → ((k : ℕ) → k < 4 → get_or bytes k 0 ≡ get_or file (at + k) 0)
     → from_le_bytes w32 bytes ≡ u32_at file at
 unfolding u32_at
-four-read file at bytes e = let none : at + 0 ≡ at = omega arith in rw (e 0 (omega arith), none, e 1 (omega arith), e 2 (omega arith), e 3 (omega arith)) (omega arith)
+four-read file at bytes e =
+    let none : at + 0 ≡ at = omega arith in
+    rw (e 0 (omega arith), none, e 1 (omega arith), e 2 (omega arith), e 3 (omega arith)) (omega arith)
 
 pub eight-read : (file : List ℕ) (at : ℕ) (bytes : List ℕ) → ((k : ℕ) → k < 8 → get_or bytes k 0 ≡ get_or file (at + k) 0)
     → from_le_bytes w64 bytes ≡ u64_at file at

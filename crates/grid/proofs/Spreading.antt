@@ -1,5 +1,6 @@
 -- Laws of spread bits, and the address by them. Assumes nothing.
-use Rattle.std.proofs.Common.{◌≡◌, ℕ, zero, suc, ◌+◌, ◌-◌, ◌*◌, ◌/◌, ◌%◌, ◌^◌, ◌<◌, ◌≤◌, min, Bool, eqb, List, length, get_or, ext_get_or, eqb→eq, sym, refl, ap, ◌∙◌, mod-lt, suc-add}
+use Rattle.std.proofs.Common.{◌≡◌, ℕ, zero, suc, ◌+◌, ◌-◌, ◌*◌, ◌/◌, ◌%◌, ◌^◌, ◌<◌, ◌≤◌, min, Bool, eqb, List, length, get_or, ext_get_or, eqb→eq, sym, refl}
+use Rattle.std.proofs.Common.{ap, ◌∙◌, mod-lt, suc-add}
 use Rattle.std.proofs.Common.{div-add-mod', zero-add, div-one, add-one, arith, pow_pos, bit_and}
 use native.Mathlib.Nat.{pow-succ', div-eq_of_lt}
 use lib.Pow.{field, mod-mod-pow}

@@ -3,9 +3,9 @@
 
 mod table;
 
-ghost use Rattle.std.specs.Prelude.{◌≡◌, ◌<◌, ◌≤◌};
+ghost use Rattle.std.specs.Prelude.{◌≡◌, ◌<◌, ◌≤◌, length, min};
 ghost use Rattle.grid.specs.Grid.{block_width, blocks, log2, Power, is_power, Placed, address, beside};
-ghost use Rattle.grid.specs.Words.{word_bytes};
+ghost use Rattle.grid.specs.Words.{word_bytes, Stands};
 
 pub use table::{morton_index_by_table, spread};
 
@@ -15,6 +15,23 @@ pub struct Grid {
     pub across: usize,
     pub down: usize,
     pub is2bpp: bool,
+}
+
+impl Grid {
+    // The smaller of its sides.
+    pub fn smaller(self) -> usize
+        ensures { result ≡ min self.across self.down }
+    {
+        self.across.min(self.down)
+    }
+}
+
+// The words of a grid, in a run of bytes.
+#[derive(Clone, Copy)]
+pub struct GridWords<'a> {
+    pub bytes: &'a [u8],
+    pub grid: Grid,
+    ghost stands: { Stands grid (length bytes.now) },
 }
 
 // The texels across a block.
@@ -87,7 +104,7 @@ pub fn previous_block(c: usize, side: usize) -> usize
     c.wrapping_sub(1) % side
 }
 
-// The block after block c of a side, round the torus.
+// The block after block c of a side, round the torus. The two names say more than one with a step of 1 or -1 would.
 pub fn next_block(c: usize, side: usize) -> usize
     requires { Power side }
     ensures { result ≡ beside side c 2 }

@@ -1,5 +1,5 @@
 -- The fields of a 64-bit word are the parts of its eight bytes: the modulation below, colour A, colour B on top. Assumes nothing.
-use Rattle.std.proofs.Common.{◌≡◌, ap, List, ℕ, ◌+◌, ◌*◌, ◌/◌, ◌%◌, ◌^◌, ◌<◌, arith, eqb}
+use Rattle.std.proofs.Common.{◌≡◌, ℕ, ◌+◌, ◌*◌, ◌/◌, ◌%◌, ◌^◌, ◌<◌, eqb, List, ap, arith}
 use Rattle.facts.specs.Bits.{is_set}
 use Rattle.word.specs.Word.{modulation, color_a, color_b}
 use Rattle.khronos.specs.Agrees.{Bytes}

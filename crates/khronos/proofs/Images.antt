@@ -1,5 +1,5 @@
 -- The colours of the small images A and B are the two colours of a word. Assumes nothing.
-use Rattle.std.proofs.Common.{◌≡◌, Bool, true, false, cond, List, ℕ, ◌/◌, ◌%◌, ◌^◌, arith}
+use Rattle.std.proofs.Common.{◌≡◌, ℕ, ◌/◌, ◌%◌, ◌^◌, Bool, true, false, cond, List, arith}
 use Rattle.facts.specs.Bits.{is_set}
 use Rattle.word.specs.Word.{blue_a, blue_b, color_of, word_of}
 use Rattle.word.specs.declared.PVRTCTexelColor.{PVRTCTexelColor}

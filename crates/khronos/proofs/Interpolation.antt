@@ -1,5 +1,5 @@
 -- Bilinear interpolation between the middles of blocks is document 01's sum over nine blocks. Assumes nothing.
-use Rattle.std.proofs.Common.{◌≡◌, ap, ◌∙◌, ⊎_elim, ℕ, ◌+◌, ◌-◌, ◌*◌, ◌/◌, ◌%◌, ◌≤◌, ◌<◌, mod-lt, div-add-mod', arith}
+use Rattle.std.proofs.Common.{◌≡◌, ℕ, ◌+◌, ◌-◌, ◌*◌, ◌/◌, ◌%◌, ◌<◌, ◌≤◌, ap, ◌∙◌, ⊎_elim, mod-lt, div-add-mod', arith}
 use Rattle.facts.specs.Sum.{sum}
 use Rattle.facts.proofs.Numbers.{lt-or-le, split}
 use Rattle.grid.specs.Grid.{beside}

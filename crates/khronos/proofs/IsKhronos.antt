@@ -1,5 +1,5 @@
 -- Every texel of document 01 is the one that Khronos describes. Assumes nothing.
-use Rattle.std.proofs.Common.{◌≡◌, sym, ap, ◌∙◌, Bool, List, ℕ, ◌+◌, ◌*◌, ◌/◌, ◌%◌, ◌<◌, arith, drop, get_or-drop}
+use Rattle.std.proofs.Common.{◌≡◌, ℕ, ◌+◌, ◌*◌, ◌/◌, ◌%◌, ◌<◌, Bool, List, drop, sym, ap, ◌∙◌, arith, get_or-drop}
 use Rattle.grid.specs.Grid.{half, block_width, beside}
 use Rattle.grid.proofs.Powers.{power-above}
 use Rattle.grid.proofs.Torus.{beside-own, beside-below}

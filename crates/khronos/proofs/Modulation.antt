@@ -1,5 +1,5 @@
 -- The modulation at a texel, stored or filled, is its weight. Assumes nothing.
-use Rattle.std.proofs.Common.{◌≡◌, refl, ◌∙◌, Bool, true, false, cond, not, ◌&&◌, List, ℕ, zero, suc, ◌+◌, ◌-◌, ◌*◌, ◌/◌, ◌%◌, ◌<◌, mod-lt, arith, eqb}
+use Rattle.std.proofs.Common.{◌≡◌, ℕ, zero, suc, ◌+◌, ◌-◌, ◌*◌, ◌/◌, ◌%◌, ◌<◌, Bool, true, false, cond, not, ◌&&◌, eqb, List, refl, ◌∙◌, mod-lt, arith}
 use Rattle.facts.specs.Bits.{is_set}
 use Rattle.grid.specs.Grid.{half, beside}
 use Rattle.word.specs.Word as word

@@ -1,5 +1,5 @@
 -- The texels that are punched through are those that a word's flag says. Assumes nothing.
-use Rattle.std.proofs.Common.{◌≡◌, refl, Bool, true, false, cond, List, ℕ, ◌+◌, ◌*◌, ◌%◌, ◌^◌, arith, eqb}
+use Rattle.std.proofs.Common.{◌≡◌, ℕ, ◌+◌, ◌*◌, ◌%◌, ◌^◌, Bool, true, false, cond, eqb, List, refl, arith}
 use native.Mathlib.Nat.{zero-div}
 use Rattle.grid.specs.Grid.{half}
 use Rattle.word.specs.Word.{modulation, mode, punch4bpp, word_of}

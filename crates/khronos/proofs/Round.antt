@@ -1,5 +1,5 @@
 -- A place of the three by three blocks about a texel, as a place round the picture. Assumes nothing.
-use Rattle.std.proofs.Common.{◌≡◌, sym, ap, ◌∙◌, ℕ, ◌+◌, ◌-◌, ◌*◌, ◌/◌, ◌%◌, ◌<◌, mod-lt, div-add-mod', mul-pos, arith}
+use Rattle.std.proofs.Common.{◌≡◌, ℕ, ◌+◌, ◌-◌, ◌*◌, ◌/◌, ◌%◌, ◌<◌, sym, ap, ◌∙◌, mod-lt, mul-pos, div-add-mod', arith}
 use native.Mathlib.Nat.{add-mul-mod_self_right}
 use Rattle.facts.proofs.Numbers.{split}
 use Rattle.grid.specs.Grid.{beside}

@@ -1,6 +1,6 @@
 -- Khronos's count of blocks and its order of words are document 01's. Assumes nothing.
-use Rattle.std.proofs.Common.{◌≡◌, refl, ap, ap₂, ◌∙◌, Bool, true, false, cond, ⊎_elim, ℕ, zero, suc, ◌+◌, ◌-◌, ◌*◌, ◌/◌, ◌%◌, ◌^◌, ◌≤◌, ◌<◌, min, max}
-use Rattle.std.proofs.Common.{div-one, mul-le-mul_right, arith, eqb, eqb→eq, pow_mono, eqb-true}
+use Rattle.std.proofs.Common.{◌≡◌, ℕ, zero, suc, ◌+◌, ◌-◌, ◌*◌, ◌/◌, ◌%◌, ◌^◌, ◌<◌, ◌≤◌, min, max, Bool, true, false, cond, eqb, refl, ap, ◌∙◌, ap₂, ⊎_elim}
+use Rattle.std.proofs.Common.{mul-le-mul_right, div-one, arith, eqb→eq, pow_mono, eqb-true}
 use native.Mathlib.Nat.{pow-succ', zero-div}
 use borrow.Author.Tests.{eqb-false}
 use Rattle.facts.proofs.Finite.{below}

@@ -1,5 +1,5 @@
 -- The modulation that a word stores for a texel is its stored weight. Assumes nothing.
-use Rattle.std.proofs.Common.{◌≡◌, refl, ◌∙◌, Bool, true, false, cond, ◌&&◌, ◌||◌, List, ℕ, ◌+◌, ◌*◌, ◌/◌, ◌%◌, ◌^◌, ◌<◌, arith, T, eqb, eqb→eq, get_or}
+use Rattle.std.proofs.Common.{◌≡◌, ℕ, ◌+◌, ◌*◌, ◌/◌, ◌%◌, ◌^◌, ◌<◌, Bool, true, false, cond, ◌&&◌, ◌||◌, T, eqb, List, get_or, refl, ◌∙◌, arith, eqb→eq}
 use mathlib.Core.Bool.{beq}
 use Rattle.facts.specs.Bits.{is_set}
 use Rattle.facts.specs.Finite.{all_below}

@@ -1,5 +1,5 @@
 -- A channel that was made large has the same 8 bits in both forms. Assumes nothing.
-use Rattle.std.proofs.Common.{◌≡◌, Bool, true, false, ℕ, ◌*◌, arith}
+use Rattle.std.proofs.Common.{◌≡◌, ℕ, ◌*◌, Bool, true, false, arith}
 use Rattle.grid.specs.Grid.{half}
 use Rattle.texel.specs.Texel.{scale_color, scale_alpha}
 use Rattle.khronos.specs.Khronos.{five→eight, four→eight}

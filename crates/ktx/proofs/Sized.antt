@@ -1,6 +1,5 @@
 -- Decoding data whose size is said: the sizes speak first, then the said size, then the block call. Assumes nothing.
-use Rattle.std.proofs.Common.{◌≡◌, ℕ, false, not, eqb, List, [], ◌∷◌, length, Ok, Err, Result, sym, refl, ap, ◌∙◌, arith, eq-eqb}
-use Rattle.std.proofs.Common.{ne_eqb}
+use Rattle.std.proofs.Common.{◌≡◌, ℕ, false, not, eqb, List, [], ◌∷◌, length, Ok, Err, Result, sym, refl, ap, ◌∙◌, arith, eq-eqb, ne_eqb}
 use Rattle.facts.specs.Checks.{check, first_of}
 use Rattle.facts.proofs.Checks.{none_said, said-first, said-later}
 use Rattle.files.proofs.Answers.{stopped}

@@ -32,7 +32,7 @@ fn is_4bpp(format: u32) -> bool
     format == 0x8C00 || format == 0x8C02
 }
 
-// The same at 2 bits.
+// The same at 2 bits. One function of both, told two numbers, would say less.
 fn is_2bpp(format: u32) -> bool
     ensures { result ≡ has_two_bits format }
 {

@@ -1,6 +1,6 @@
 -- Laws of eight numbers as the bytes of one, and of a row of weights filled by one sum, for any rule. Assumes nothing.
-use Rattle.std.proofs.Common.{◌≡◌, sym, ap, ap₂, ◌∙◌, Bool, true, false, cond, List, [], ◌∷◌, ℕ, zero, suc, ◌+◌, ◌*◌, ◌/◌, ◌%◌, ◌^◌, ◌≤◌, ◌<◌}
-use Rattle.std.proofs.Common.{mul-le-mul_left, arith, rules, bit_and, get_or, shr-shr}
+use Rattle.std.proofs.Common.{◌≡◌, ℕ, zero, suc, ◌+◌, ◌*◌, ◌/◌, ◌%◌, ◌^◌, ◌<◌, ◌≤◌, Bool, true, false, cond, List, [], ◌∷◌, get_or, bit_and, sym, ap, ◌∙◌}
+use Rattle.std.proofs.Common.{ap₂, mul-le-mul_left, arith, shr-shr, rules}
 use native.Mathlib.Nat.{zero-div}
 use lib.Bits.{and_block, and_mask, and_zero_l, and_zero_r}
 use Rattle.facts.proofs.Tab.{get_or-tab}

@@ -1,5 +1,5 @@
 -- Three channels as fields of five bits in one number, and how one product lays them in lanes. Assumes nothing.
-use Rattle.std.proofs.Common.{◌≡◌, refl, ap, ap₂, ◌∙◌, Bool, true, false, cond, ℕ, ◌+◌, ◌*◌, ◌/◌, ◌%◌, ◌<◌, arith, bit_and}
+use Rattle.std.proofs.Common.{◌≡◌, ℕ, ◌+◌, ◌*◌, ◌/◌, ◌%◌, ◌<◌, Bool, true, false, cond, bit_and, refl, ap, ◌∙◌, ap₂, arith}
 use native.Mathlib.Nat.{div-div-eq-div-mul}
 use lib.Bits.{and_block, and_mask}
 use Rattle.pixel.specs.declared.ChannelOrder.{ChannelOrder}

@@ -1,6 +1,6 @@
 -- Laws of four numbers as the 16-bit lanes of one: masks and shifts act on each lane apart. Assumes nothing.
-use Rattle.std.proofs.Common.{◌≡◌, refl, ap, ap₂, ◌∙◌, Bool, true, false, cond, ℕ, ◌+◌, ◌*◌, ◌/◌, ◌%◌, ◌-◌, ◌≤◌, ◌<◌, add-mul, mul-add, mul_assoc}
-use Rattle.std.proofs.Common.{mul-le-mul_left, mul-le-mul_right, div-add-mod', mod-lt, arith, bit_and}
+use Rattle.std.proofs.Common.{◌≡◌, ℕ, ◌+◌, ◌-◌, ◌*◌, ◌/◌, ◌%◌, ◌<◌, ◌≤◌, Bool, true, false, cond, bit_and, refl, ap, ◌∙◌, ap₂, mul-le-mul_right, mod-lt}
+use Rattle.std.proofs.Common.{mul_assoc, add-mul, mul-le-mul_left, div-add-mod', mul-add, arith}
 use native.Mathlib.Nat.{add-mul-div_right, add-mul-mod_self_right}
 use lib.Bits.{and_block, and_high, and_le_r, and_mask, and_mod, and_zero_r}
 use Rattle.facts.proofs.Numbers.{cond-le}

@@ -1,5 +1,5 @@
 -- How the texels of a row are laid, at either depth: word by word, as far as its sheet has columns. Assumes nothing.
-use Rattle.std.proofs.Common.{◌≡◌, Bool, true, false, List, ℕ, ◌+◌, ◌*◌, ◌≤◌, ◌<◌, min, arith, length, set}
+use Rattle.std.proofs.Common.{◌≡◌, ℕ, ◌+◌, ◌*◌, ◌<◌, ◌≤◌, min, Bool, true, false, List, length, set, arith}
 use Rattle.grid.specs.Grid.{half}
 use Rattle.paint.proofs.Laid.{Row, row-none, row_word}
 use Rattle.lanes.specs.declared.Sums.{Sums}

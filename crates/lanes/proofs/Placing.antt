@@ -1,5 +1,5 @@
 -- Where words stand: bits spread by masks, and an address as the sum of what its column and its row add. Assumes nothing.
-use Rattle.std.proofs.Common.{Bool, true, false, ◌≡◌, refl, sym, ap, ap₂, ◌∙◌, ℕ, zero, suc, ◌+◌, ◌*◌, ◌/◌, ◌-◌, ◌≤◌, ◌<◌, min, arith, bit_and, bit_or, eqb}
+use Rattle.std.proofs.Common.{◌≡◌, ℕ, zero, suc, ◌+◌, ◌-◌, ◌*◌, ◌/◌, ◌<◌, ◌≤◌, min, Bool, true, false, eqb, bit_and, bit_or, sym, refl, ap, ◌∙◌, ap₂, arith}
 use Rattle.std.proofs.Common.{eqb→eq}
 use lib.Bits.{and_zero_l}
 use Rattle.facts.proofs.Finite.{below}

@@ -1,5 +1,5 @@
 -- Colours as lanes, as the code reads them. Assumes nothing.
-use Rattle.std.proofs.Common.{◌≡◌, refl, sym, ap, ap₂, ◌∙◌, true, List, [], ◌∷◌, ℕ, ◌+◌, ◌*◌, ◌<◌, ◌≤◌, arith, get_or, get_or-drop}
+use Rattle.std.proofs.Common.{◌≡◌, ℕ, ◌+◌, ◌*◌, ◌<◌, ◌≤◌, true, List, [], ◌∷◌, get_or, sym, refl, ap, ◌∙◌, ap₂, arith, get_or-drop}
 use Rattle.facts.proofs.Tab.{get_or-tab}
 use Rattle.facts.specs.Tab.{tab}
 use Rattle.pixel.specs.declared.ChannelOrder.{ChannelOrder}

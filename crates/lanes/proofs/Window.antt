@@ -1,5 +1,5 @@
 -- A window of three columns gives the sums of the nine words, at either depth. Assumes nothing.
-use Rattle.std.proofs.Common.{◌≡◌, sym, ap, ◌∙◌, Bool, true, false, List, ℕ, ◌+◌, ◌*◌, ◌<◌, arith, get_or}
+use Rattle.std.proofs.Common.{◌≡◌, ℕ, ◌+◌, ◌*◌, ◌<◌, Bool, true, false, List, get_or, sym, ap, ◌∙◌, arith}
 use Rattle.facts.proofs.Tab.{get_or-tab}
 use Rattle.grid.specs.Grid.{half, block_width}
 use Rattle.pixel.specs.Pixel.{packed}

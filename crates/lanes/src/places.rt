@@ -47,9 +47,9 @@ pub fn row_addresses(g: Grid, by: usize) -> RowAddresses
     requires { Stands g (word_bytes g) × (by < g.down) }
     ensures { result ≡ addresses_of g by }
 {
-    let smaller = facts::least(g.across, g.down);
+    let smaller = g.smaller();
     RowAddresses {
-        smaller: smaller,
+        smaller,
         above: grid::morton_index_by_table(0, grid::previous_block(by, g.down), smaller),
         own: grid::morton_index_by_table(0, by, smaller),
         below: grid::morton_index_by_table(0, grid::next_block(by, g.down), smaller),

@@ -118,6 +118,7 @@ pub fn decode_row<M: Modulation>(
     let addresses = row_addresses(g, by);
     let mut left = block_at::<M>(data, addresses, g.across - 1, order);
     let mut own = block_at::<M>(data, addresses, 0, order);
+    // bx is a place on the torus: the column after it and its part of the sheet are made of it.
     for bx in 0..grid::num_blocks_x(row.width, g.is2bpp) {
         let next = next_column(bx, g.across);
         let right = block_at::<M>(data, addresses, next, order);

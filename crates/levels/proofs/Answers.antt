@@ -1,5 +1,5 @@
 -- How what a file's header answers of its levels is put together, and what it gives. Assumes nothing.
-use Rattle.std.proofs.Common.{◌≡◌, refl, sym, ◌∙◌, true, false, List, [], ◌∷◌, ℕ, ◌<◌, arith, eqb, T, ne_eqb, Result, Ok, Err}
+use Rattle.std.proofs.Common.{◌≡◌, ℕ, ◌<◌, true, false, T, eqb, List, [], ◌∷◌, Ok, Err, Result, sym, refl, ◌∙◌, arith, ne_eqb}
 use Rattle.facts.specs.Checks.{Check, check, first_of, numbered}
 use Rattle.facts.proofs.Checks.{said-first, said-later}
 use Rattle.facts.proofs.Lists.{choice}

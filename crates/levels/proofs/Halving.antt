@@ -1,11 +1,8 @@
 -- Laws of halving a side, and of how often it can be halved. Assumes nothing.
-use mathlib.Core.Path.{◌≡◌, refl, sym, ap, ◌∙◌}
-use mathlib.Core.Logic.{⊎_elim}
-use Rattle.std.proofs.Common.{max}
-use Prim.Native.Nat.{ℕ, zero, suc, ◌*◌, ◌/◌, ◌^◌, ◌≤◌, ◌<◌}
-use native.Mathlib.Nat.{div-div-eq-div-mul, div-lt_iff_lt-mul, le-div_iff_mul-le, eq-or-lt_of_le, pow-succ'}
-use native.Mathlib.Omega.{arith}
-use lib.Pow.{pow_pos, pow-lt}
+use Rattle.std.proofs.Common.{◌≡◌, ℕ, zero, suc, ◌*◌, ◌/◌, ◌^◌, ◌<◌, ◌≤◌, max, sym, refl, ap, ◌∙◌, ⊎_elim, div-lt_iff_lt-mul, eq-or-lt_of_le}
+use Rattle.std.proofs.Common.{le-div_iff_mul-le, arith, pow_pos}
+use native.Mathlib.Nat.{div-div-eq-div-mul, pow-succ'}
+use lib.Pow.{pow-lt}
 use Rattle.facts.proofs.Numbers.{lt-or-le}
 use Rattle.facts.proofs.Powers.{pow-le-cancel}
 use Rattle.grid.specs.Grid.{halvings, log2}

@@ -1,5 +1,5 @@
 -- No two answers meet the promise of describing a level, nor that of decoding it. Assumes nothing.
-use Rattle.std.proofs.Common.{◌≡◌, refl, sym, ◌∙◌, ℕ, List, Result}
+use Rattle.std.proofs.Common.{◌≡◌, ℕ, List, Result, sym, refl, ◌∙◌}
 use Rattle.facts.specs.Checks.{Check}
 use Rattle.facts.proofs.Said.{same-answer, same-said}
 use Rattle.facts.proofs.Said as said

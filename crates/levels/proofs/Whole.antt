@@ -1,13 +1,6 @@
 -- From what a header, the plate's levels and a size word say to the promise for a level of a file. Assumes nothing.
-use Rattle.std.proofs.Common.{Result, Ok, Err}
-use mathlib.Core.Path.{◌≡◌, refl, sym, ap, ◌∙◌}
-use mathlib.Core.Bool.{true, false}
-use mathlib.Core.List.{List, [], ◌++◌}
-use Prim.Native.Nat.{ℕ, ◌-◌, ◌≤◌, ◌<◌, min}
-use native.Mathlib.Omega.{arith}
-use lib.Dec.{T, eqb}
-use lib.ListN.{length, take, drop}
-use borrow.Author.Tests.{ne_eqb, ltb-false, leb-false}
+use Rattle.std.proofs.Common.{◌≡◌, ℕ, ◌-◌, ◌<◌, ◌≤◌, min, true, false, T, eqb, List, [], ◌++◌, length, take, drop, Ok, Err, Result, sym, refl, ap, ◌∙◌, arith}
+use Rattle.std.proofs.Common.{ltb-false, ne_eqb, leb-false}
 use Rattle.facts.specs.Checks.{Check, first_of, numbered, condition}
 use Rattle.facts.proofs.Checks.{none_said, neither-said, said-first, said-later, numbered-append}
 use Rattle.facts.proofs.Lists.{choice}

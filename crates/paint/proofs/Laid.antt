@@ -1,5 +1,6 @@
 -- How a rectangle grows: by a word, by columns, by rows. Assumes nothing.
-use Rattle.std.proofs.Common.{◌≡◌, refl, sym, ap, ap₂, ◌∙◌, List, ⊎_elim, ℕ, ◌+◌, ◌-◌, ◌*◌, ◌<◌, ◌≤◌, mul-le-mul_right, arith, length, get_or, set, ◌++◌, take, drop, length-take}
+use Rattle.std.proofs.Common.{◌≡◌, refl, sym, ap, ap₂, ◌∙◌, List, ⊎_elim, ℕ, ◌+◌, ◌-◌, ◌*◌, ◌<◌, ◌≤◌, mul-le-mul_right, arith, length, get_or, set, ◌++◌}
+use Rattle.std.proofs.Common.{take, drop, length-take}
 use Rattle.std.proofs.Common.{length-set, get_or-set_same, get_or-set_other}
 use Rattle.std.proofs.lemmas.Grind.{elements}
 use Rattle.facts.proofs.Numbers.{lt-or-le}
@@ -195,7 +196,7 @@ row-part {f} {old} {start} {stride} {n} {j} {img} {new} {at} r l m ea e =
     part-is l (e ∙ ap₂ (λ (k : ℕ) (i : List ℕ). painted k n n 1 (λ x y. f x j) i) ea r.is ∙ row_more start stride n j f old l m)
 
 -- words put in the place of as many lay one row
-put : (to n : ℕ) (f : ℕ → ℕ → ℕ) (mid old : List ℕ) → to + n ≤ length old → length mid ≡ n → ((x : ℕ) → x < n → get_or mid x 0 ≡ f x 0)
+pub put : (to n : ℕ) (f : ℕ → ℕ → ℕ) (mid old : List ℕ) → to + n ≤ length old → length mid ≡ n → ((x : ℕ) → x < n → get_or mid x 0 ≡ f x 0)
     → take to old ++ (mid ++ drop n (drop to old)) ≡ painted to n n 1 f old
 put to n f mid old fits long same =
     is-painted to n n 1 (omega arith) f old (take to old ++ (mid ++ drop n (drop to old))) (grind (arith, elements)) new rest

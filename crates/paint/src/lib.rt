@@ -43,6 +43,7 @@ pub fn copy_block_buffer(buffer: &[u32; 32], bw: usize, part: Sheet, image: &mut
     requires { Fits part (length image.old) × (part.width ≤ bw) × (part.height * bw ≤ 32) }
     ensures { image.new ≡ on_sheet part (λ x y. get_or buffer.now (y * bw + x) 0) image.old }
 {
+    // j is a row of the buffer and one of the sheet, whose rows lie apart.
     for j in 0..part.height {
         let from = j * bw;
         let to = part.start + j * part.stride;

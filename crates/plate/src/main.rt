@@ -64,6 +64,7 @@ fn read_input<R: io::Read>(from: &mut R, buf: &mut [u8]) -> Result<usize, Failur
     ensures took { IfOk result (λ count. Consumes (R.remaining from.old) (R.remaining from.new) (take count buf.new)) }
     ensures failed { IfErr result IsUnread }
 {
+    // std's `read_exact` would not say how many bytes came before the end.
     let mut count = 0;
     while count < buf.len() {
         let Some(n) = read_at(from, buf, count)? else {

@@ -1,13 +1,5 @@
 -- How the promise of reading a header is met, and what it gives. Assumes nothing.
-use mathlib.Core.Path.{◌≡◌, sym, ap}
-use mathlib.Core.Bool.{false}
-use mathlib.Core.List.{List}
-use mathlib.Core.Logic.{◌↔◌}
-use Prim.Native.Nat.{ℕ, ◌<◌}
-use native.Mathlib.Omega.{arith}
-use lib.Dec.{eqb}
-use Rattle.std.specs.Prelude.{Result, Ok, Err}
-use borrow.Author.Tests.{ne_eqb}
+use Rattle.std.proofs.Common.{◌≡◌, ℕ, ◌<◌, false, eqb, ◌↔◌, List, Ok, Err, Result, sym, ap, arith, ne_eqb}
 use Rattle.facts.specs.Checks.{Given}
 use Rattle.facts.proofs.Checks.{exactly-when}
 use Rattle.files.specs.Fields.{bits_of}

@@ -1,11 +1,7 @@
 -- What 18 refuses, beside what was refused while flags had no effect. Assumes nothing.
-use mathlib.Core.Path.{◌≡◌, refl, sym, ◌∙◌}
-use mathlib.Core.Bool.{Bool, true, false, cond, not, ◌&&◌, false≢true}
-use mathlib.Core.List.{List, ◌∷◌}
-use Prim.Native.Nat.{ℕ}
-use native.Mathlib.Omega.{arith}
-use lib.Dec.{T, eqb}
-use borrow.Author.Tests.{eqb-true, eqb-false, ne_eqb}
+use Rattle.std.proofs.Common.{◌≡◌, ℕ, Bool, true, false, cond, not, ◌&&◌, T, eqb, List, ◌∷◌, sym, refl, ◌∙◌, arith, ne_eqb, eqb-true}
+use mathlib.Core.Bool.{false≢true}
+use borrow.Author.Tests.{eqb-false}
 use Rattle.facts.specs.Checks.{Check, check, first_of}
 use Rattle.facts.proofs.Lists.{choice}
 use Rattle.files.proofs.Answers.{numbers_pass, said-passes}

@@ -1,13 +1,8 @@
 -- Colour space, channel type and whatever follows the header have no effect on how it is read, and known flags are read alike. Assumes nothing.
-use mathlib.Core.Path.{◌≡◌, refl, sym, ap, ◌∙◌}
-use mathlib.Core.Bool.{Bool, true, false, not}
-use mathlib.Core.List.{List, ◌++◌}
-use Prim.Native.Nat.{ℕ, ◌+◌, ◌<◌, ◌≤◌}
-use native.Mathlib.Omega.{arith}
-use lib.Dec.{T, ltb}
-use lib.ListN.{length, get_or, length-append, get_or-append}
-use borrow.Author.Tests.{ltb-false, le-ltb, lt-leb}
-use Rattle.std.specs.Prelude.{Result}
+use Rattle.std.proofs.Common.{◌≡◌, ℕ, ◌+◌, ◌<◌, ◌≤◌, Bool, true, false, not, T, ltb, List, ◌++◌, length, get_or, Result, sym, refl, ap, ◌∙◌, arith}
+use Rattle.std.proofs.Common.{length-append, ltb-false, le-ltb}
+use lib.ListN.{get_or-append}
+use borrow.Author.Tests.{lt-leb}
 use Rattle.pvr.specs.declared.HeaderRefusal.{HeaderRefusal}
 use Rattle.pvr.specs.declared.Plate.{Plate}
 use Rattle.facts.specs.Finite.{all_below}

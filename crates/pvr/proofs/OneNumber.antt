@@ -1,11 +1,6 @@
 -- What each field says by its own number today was said by 14 before, and every other number is what it was. Assumes nothing.
-use mathlib.Core.Path.{◌≡◌, refl, sym, ◌∙◌}
-use mathlib.Core.Bool.{Bool, true, false, cond, ◌||◌}
-use mathlib.Core.List.{List, [], ◌∷◌}
-use Prim.Native.Nat.{ℕ, ◌≤◌}
-use native.Mathlib.Omega.{arith}
-use lib.Dec.{eqb}
-use borrow.Author.Tests.{eqb-true, eqb-false, eq-eqb, ne_eqb}
+use Rattle.std.proofs.Common.{◌≡◌, ℕ, ◌≤◌, Bool, true, false, cond, ◌||◌, eqb, List, [], ◌∷◌, sym, refl, ◌∙◌, arith, eq-eqb, ne_eqb, eqb-true}
+use borrow.Author.Tests.{eqb-false}
 use Rattle.facts.specs.Checks.{Check, check, first_of}
 use Rattle.pvr.specs.AnyFlags.{any_flags_refusal}
 use Rattle.pvr.specs.Header.{depth_not_one, surfaces_not_one, faces_not_one, no_level, short_header, not_pvr, unknown_format}

@@ -1,12 +1,14 @@
 -- What the loop of the row call keeps and needs. Assumes nothing.
-use Rattle.std.proofs.Common.{◌≡◌, ℕ, ◌+◌, ◌-◌, ◌/◌, ◌%◌, ◌<◌, ◌≤◌, Bool, true, false, cond, eqb, List, length, get_or, drop, set, Ok, Err, Result, sym, ap}
+use Rattle.std.proofs.Common.{◌≡◌, ℕ, ◌+◌, ◌-◌, ◌/◌, ◌%◌, ◌<◌, ◌≤◌, Bool, true, false, cond, eqb, List, ◌++◌, length, get_or, drop, Ok, Err, Result, sym, ap}
 use Rattle.std.proofs.Common.{◌∙◌, ⊎_elim, mod-lt, mod-eq_of_lt, eq-zero-or-pos, zero-add, arith, eq-eqb, ne_eqb}
 use native.Mathlib.Nat.{zero-mod, zero-div, mod_self, add-mod_right}
-use Rattle.facts.proofs.Tab.{tab-front, filled-length}
+use Rattle.facts.specs.Tab.{tab}
+use Rattle.facts.proofs.Tab.{tab-front, length-tab, get_or-tab, filled-length}
 use Rattle.grid.specs.declared.Grid.{Grid}
 use Rattle.grid.specs.Grid.{half, block_width, beside}
 use Rattle.grid.proofs.Counts.{wide}
-use Rattle.paint.proofs.Laid.{Row, row_word}
+use Rattle.paint.proofs.Laid.{put}
+use Rattle.paint.specs.Paint.{painted}
 use Rattle.pixel.specs.Pixel.{packed}
 use Rattle.pixel.specs.declared.ChannelOrder.{ChannelOrder}
 use Rattle.texel.proofs.Needed.{needed-read, slid-is, texel-of-row}
@@ -37,10 +39,11 @@ module _ (p : Picture) (d : List ℕ) (x y room : ℕ) (a : Accepted p (call.Row
   its-word {r} {v} t e =
       sym (ap texel_value e) ∙ t.value ∙ rw (accepted.texel-of-row p x y room (length d) a h)
 
--- one word more of a row that starts at word 0
-pub next_word : {f : ℕ → ℕ → ℕ} {old : List ℕ} {stride i : ℕ} {img : List ℕ} {v : ℕ} → Row f old 0 stride i img → v ≡ f i 0 → i < stride
-    → i < length old → Row f old 0 stride (i + 1) (set img i v)
-next_word {f} {old} {stride} {i} {img} {v} r e l m = rw (zero-add i) at (row_word r e l (rw (zero-add i) m))
+-- a row's words in the place of the first ones
+pub row-laid : (f : ℕ → ℕ → ℕ) (n : ℕ) {words : List ℕ} (old : List ℕ) → n ≤ length old → words ≡ tab (λ x. f x 0) n
+    → words ++ drop n old ≡ painted 0 n n 1 f old
+row-laid f n {words} old l e =
+    put 0 n f words old (omega arith) (ap length e ∙ length-tab (λ x. f x 0) n) (λ x h. ap (λ (l : List ℕ). get_or l x 0) e ∙ get_or-tab (λ x. f x 0) n x 0 h)
 
 -- how a column and the one before it lie in their blocks
 module _ (two : Bool) (x : ℕ) where

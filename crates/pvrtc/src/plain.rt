@@ -2,7 +2,7 @@
 // sheet. It promises what the fast form promises.
 ghost use Rattle.std.specs.Prelude.{true, false, ◌≡◌, ◌*◌, ◌+◌, ◌≤◌, length};
 ghost use Rattle.grid.specs.Grid.{block_width};
-ghost use Rattle.grid.specs.Words.{Stands, InGrid};
+ghost use Rattle.grid.specs.Words.{InGrid};
 ghost use Rattle.lanes.specs.BlockRow.{Ready, with_block_row};
 ghost use Rattle.paint.specs.Sheet.{on_sheet, Fits};
 ghost use Rattle.texel.specs.Inner.{Read};
@@ -13,7 +13,7 @@ ghost use Rattle.pvrtc.specs.Inner.{block_words};
 use crate::check::check;
 use crate::layout::{grid_of, sheet_of};
 use crate::{Call, Picture, Refusal};
-use grid::Grid;
+use grid::{Grid, GridWords};
 use paint::Sheet;
 use pixel::ChannelOrder;
 use word::PVRTCTexelInfo;
@@ -33,21 +33,22 @@ fn applicate_color(nine: [PVRTCTexelInfo; 9], is2bpp: bool, order: ChannelOrder)
 
 // Block (bx, by) of a grid, laid on its part of a sheet.
 fn decode_block(
-    data: &[u8],
-    g: Grid,
+    w: GridWords<'_>,
     bx: usize,
     by: usize,
     order: ChannelOrder,
     part: Sheet,
     image: &mut [u32],
 )
-    requires stands { Stands g (length «data».now) × InGrid g bx by }
-    requires fits { Fits part (length image.old) × (part.width ≤ block_width g.is2bpp) × (part.height ≤ 4) }
-    ensures { image.new ≡ on_sheet part (λ x y. grid_texel order g «data».now (bx * block_width g.is2bpp + x) (by * 4 + y)) image.old }
+    requires in_grid { InGrid w.grid bx by }
+    requires fits { Fits part (length image.old) × (part.width ≤ block_width w.grid.is2bpp) × (part.height ≤ 4) }
+    ensures { image.new
+        ≡ on_sheet part (λ x y. grid_texel order w.entry.grid w.entry.bytes.now (bx * block_width w.entry.grid.is2bpp + x) (by * 4 + y)) image.old }
 {
-    let nine = texel::nine_words(data, g, bx, by);
-    let buffer = applicate_color(nine, g.is2bpp, order);
-    paint::copy_block_buffer(&buffer, grid::block_width(g.is2bpp), part, image);
+    let is2bpp = w.grid.is2bpp;
+    let nine = texel::nine_words(w, bx, by);
+    let buffer = applicate_color(nine, is2bpp, order);
+    paint::copy_block_buffer(&buffer, grid::block_width(is2bpp), part, image);
 }
 
 // Row `by` of a grid's blocks, laid on its sheet: as many blocks as cover it.
@@ -62,11 +63,14 @@ fn decode_block_row(
     requires { Ready g by row (length «data».now) (length image.old) }
     ensures { image.new ≡ with_block_row order g by row «data».now image.old }
 {
+    let w = GridWords {
+        bytes: data,
+        grid: g,
+    };
     let width = grid::block_width(g.is2bpp);
     for bx in 0..grid::num_blocks_x(row.width, g.is2bpp) {
         decode_block(
-            data,
-            g,
+            w,
             bx,
             by,
             order,
@@ -76,7 +80,7 @@ fn decode_block_row(
     }
 }
 
-// All texels of a picture into lent words.
+// All texels of a picture into lent words. The loop stands here again on purpose: this is the form to hold the fast one against (docs/DECISIONS.md).
 pub fn decode_pvrtc_plain(data: &[u8], p: Picture, image: &mut [u32]) -> Result<(), Refusal>
     ensures { BlockDecoded p «data».now image.old image.new result }
 {

@@ -7,6 +7,7 @@ ghost use Rattle.pvrtc.specs.Picture.{picture_texel};
 use crate::check::check;
 use crate::layout::grid_of;
 use crate::{Call, Picture, Refusal};
+use grid::GridWords;
 
 // What the texel call answers, where the texels of its row in its block are known.
 fn known_texel(
@@ -29,16 +30,21 @@ pub fn decode_row(data: &[u8], p: Picture, y: usize, row: &mut [u32]) -> Result<
 {
     check(p, Call::Row { y, room: row.len() }, data.len())?;
     let g = grid_of(p);
+    let w = GridWords {
+        bytes: data,
+        grid: g,
+    };
     let width = grid::block_width(g.is2bpp);
-    let mut nine = texel::first_words(data, g, g.across - 1, y / 4, y % 4);
+    let mut nine = texel::first_words(w, g.across - 1, y / 4, y % 4);
     let mut texels = [0u32; 8];
-    for x in 0..p.width {
+    for (x, word) in row[..p.width].iter_mut().enumerate() {
         if x % width == 0 {
-            nine = texel::next_words(data, g, nine, x / width, y / 4, y % 4);
-            texel::texels_in(nine, g.is2bpp, 0, y % 4, width, p.order, &mut texels);
+            let next = texel::next_words(w, nine, x / width, y / 4, y % 4);
+            texel::texels_in(next, g.is2bpp, 0, y % 4, width, p.order, &mut texels);
+            nine = next;
         }
         // By the checks above no texel of the row is refused.
-        row[x] = known_texel(&texels, data, p, x, y)?;
+        *word = known_texel(&texels, data, p, x, y)?;
     }
     Ok(())
 }

@@ -1,11 +1,7 @@
 -- Laws of sample files and of checksums. Assumes nothing.
-use mathlib.Core.Path.{◌≡◌, refl, sym, ap, ◌∙◌}
-use mathlib.Core.List.{List, [], ◌∷◌}
-use Prim.Native.Nat.{ℕ, zero, suc, ◌+◌, ◌*◌, ◌/◌, ◌%◌, ◌≤◌}
-use native.Mathlib.Nat.{not-suc-le-zero, le_of_suc-le-suc, add-mul-mod_self_right}
-use native.Mathlib.Numerals.{add-one}
-use native.Mathlib.Omega.{arith}
-use lib.ListN.{length, get_or, set}
+use Rattle.std.proofs.Common.{◌≡◌, ℕ, zero, suc, ◌+◌, ◌*◌, ◌/◌, ◌%◌, ◌≤◌, List, [], ◌∷◌, length, get_or, set, sym, refl, ap, ◌∙◌, le_of_suc-le-suc}
+use Rattle.std.proofs.Common.{not-suc-le-zero, add-one, arith}
+use native.Mathlib.Nat.{add-mul-mod_self_right}
 use Rattle.files.specs.Fields.{byte_of}
 use Rattle.samples.specs.File.{with_u32}
 use Rattle.samples.specs.Sums.{checksum}

@@ -32,8 +32,8 @@ fn file_byte(header: &[u32], k: usize) -> u8
 pub fn set_u32(bytes: &mut [u8], at: u32, v: u32)
     ensures { bytes.new ≡ with_u32 at v bytes.old }
 {
-    for k in 0..4 {
-        set_byte(bytes, at as usize + k, files::byte_of(v, k));
+    for (k, byte) in v.to_le_bytes().iter().enumerate() {
+        set_byte(bytes, at as usize + k, *byte);
     }
 }
 

@@ -1,5 +1,6 @@
 -- Laws of scaling and of the blend. Assumes nothing.
-use Rattle.std.proofs.Common.{◌≡◌, sym, subst, ap, Bool, true, false, cond, ⊎_elim, ℕ, ◌+◌, ◌-◌, ◌*◌, ◌/◌, ◌^◌, ◌∙◌, ◌≤◌, ◌<◌, min, max, mul-le-mul_right, mul-add, arith}
+use Rattle.std.proofs.Common.{◌≡◌, sym, subst, ap, Bool, true, false, cond, ⊎_elim, ℕ, ◌+◌, ◌-◌, ◌*◌, ◌/◌, ◌^◌, ◌∙◌, ◌≤◌, ◌<◌, min, max, mul-le-mul_right}
+use Rattle.std.proofs.Common.{mul-add, arith}
 use Rattle.std.specs.Int.{from_bool}
 use Rattle.facts.proofs.Numbers.{lt-or-le}
 use Rattle.grid.specs.Grid.{half}

@@ -36,7 +36,8 @@ pub weight : (two : Bool) (own : PVRTCTexelInfo) (nine : Words) (px py : ℕ) {f
 weight two own nine px py ef ew er = rw (← ef, ← ew) er
 
 -- an index and the weight there
-pub near-is : (two : Bool) (nine : List PVRTCTexelInfo) (x y : ℕ) {bx px : ℕ} {w : ℕ} → w ≡ block_width two → bx ≡ x / block_width two → px ≡ x % block_width two
+pub near-is : (two : Bool) (nine : List PVRTCTexelInfo) (x y : ℕ) {bx px : ℕ} {w : ℕ} → w ≡ block_width two → bx ≡ x / block_width two
+    → px ≡ x % block_width two
     → get_or (get_or nine (3 * (y / 4) + bx) blank).weight (w * (y % 4) + px) 0 ≡ near (half two) (nine_of nine) x y
 unfolding near
 near-is two nine x y ew eb ep = rw (ew, eb, ep)

@@ -11,7 +11,7 @@ ghost use Rattle.grid.specs.Grid.{half};
 ghost use Rattle.pixel.specs.Pixel.{packed, EightBits};
 ghost use Rattle.texel.specs.Texel.{blended, blend, texel_in};
 ghost use Rattle.texel.specs.Inner.{nine_of, to_bytes, pixel, Place, Read, Low};
-ghost use Rattle.texel.specs.Summed.{texel_by, LowWindow};
+ghost use Rattle.texel.specs.Summed.{texel_by, FewShares, LowWindow};
 
 use pixel::ChannelOrder;
 pub use rows::{first_words, next_words, texels_in};
@@ -19,6 +19,21 @@ use summing::{shares_across, sum_across};
 use weights::{punched, weight_at};
 use word::PVRTCTexelInfo;
 pub use words::{nine_words, texel_at};
+
+// Nine words about a block that were read, in row order, at a depth.
+#[derive(Clone, Copy)]
+pub struct NineWords<'a> {
+    pub words: &'a [PVRTCTexelInfo; 9],
+    pub is2bpp: bool,
+    ghost read: { Read is2bpp words.now },
+}
+
+// The shares of the previous, the own and the next block: none is above 8.
+#[derive(Clone, Copy)]
+pub struct ShareRow {
+    pub of: [u32; 3],
+    ghost few: { FewShares of },
+}
 
 // The channels of a colour: summed over nine blocks, or brought to 8 bits.
 #[derive(Clone, Copy)]
@@ -97,22 +112,15 @@ fn mix(
 }
 
 // The texel at the place (px, py) of the middle block of nine, from its window.
-fn texel_by(
-    nine: &[PVRTCTexelInfo; 9],
-    window: Window,
-    is2bpp: bool,
-    px: usize,
-    py: usize,
-    order: ChannelOrder,
-) -> u32
-    requires { Place is2bpp px py × Read is2bpp nine.now × LowWindow window }
-    ensures { result ≡ packed order (texel_by (half is2bpp) (nine_of nine.now) window px py) }
+fn texel_by(nine: NineWords<'_>, window: Window, px: usize, py: usize, order: ChannelOrder) -> u32
+    requires { Place nine.is2bpp px py × LowWindow window }
+    ensures { result ≡ packed order (texel_by (half nine.entry.is2bpp) (nine_of nine.entry.words.now) window px py) }
 {
-    let row = shares_across(is2bpp, px);
-    let a = scale(sum_across(window.a, &row), is2bpp);
-    let b = scale(sum_across(window.b, &row), is2bpp);
-    let w = weight_at(nine, is2bpp, px, py);
-    let is_punched = punched(nine[4].punch_through_flag, is2bpp, px, py);
+    let row = shares_across(nine.is2bpp, px);
+    let a = scale(sum_across(window.a, row), nine.is2bpp);
+    let b = scale(sum_across(window.b, row), nine.is2bpp);
+    let w = weight_at(nine, px, py);
+    let is_punched = punched(nine.words[4].punch_through_flag, nine.is2bpp, px, py);
     mix(a, b, w, is_punched, order)
 }
 

@@ -1,15 +1,15 @@
 // A row of texels, block by block: the nine words about a block become those about the next one.
 ghost use Rattle.std.specs.Prelude.{◌≡◌, ◌+◌, ◌≤◌, ◌<◌, length};
 ghost use Rattle.grid.specs.Grid.{block_width};
-ghost use Rattle.grid.specs.Words.{Stands, InGrid};
+ghost use Rattle.grid.specs.Words.{InGrid};
 ghost use Rattle.texel.specs.Inner.{Read};
 ghost use Rattle.texel.specs.Summed.{with_texels};
 ghost use Rattle.texel.specs.Needed.{row_words, slid};
 
 use crate::summing::{shares_down, sum_down};
-use crate::texel_by;
 use crate::words::{needed_words, word_if};
-use grid::Grid;
+use crate::{NineWords, ShareRow, texel_by};
+use grid::GridWords;
 use pixel::ChannelOrder;
 use word::PVRTCTexelInfo;
 
@@ -26,36 +26,39 @@ pub fn texels_in(
     requires { (px + count ≤ block_width is2bpp) × (py < 4) × Read is2bpp nine × (count ≤ length texels.old) }
     ensures { texels.new ≡ with_texels order is2bpp nine px py count texels.old }
 {
-    let window = sum_down(&nine, &shares_down(py));
+    let nine = NineWords {
+        words: &nine,
+        is2bpp,
+    };
+    let window = sum_down(nine.words, shares_down(py));
     for (i, texel) in texels[..count].iter_mut().enumerate() {
-        *texel = texel_by(&nine, window, is2bpp, px + i, py, order);
+        *texel = texel_by(nine, window, px + i, py, order);
     }
 }
 
 // The nine words about block (bx, by), as far as row py needs them.
-pub fn first_words(data: &[u8], g: Grid, bx: usize, by: usize, py: usize) -> [PVRTCTexelInfo; 9]
-    requires { Stands g (length «data».now) × InGrid g bx by × (py < 4) }
-    ensures { result ≡ row_words g «data».now bx by py }
+pub fn first_words(w: GridWords<'_>, bx: usize, by: usize, py: usize) -> [PVRTCTexelInfo; 9]
+    requires { InGrid w.grid bx by × (py < 4) }
+    ensures { result ≡ row_words w.entry.grid w.entry.bytes.now bx by py }
 {
-    needed_words(data, g, bx, by, &[1, 1, 1], &shares_down(py))
+    needed_words(w, bx, by, ShareRow { of: [1, 1, 1] }, shares_down(py))
 }
 
 // From the nine words about the block before (bx, by), those about it.
 pub fn next_words(
-    data: &[u8],
-    g: Grid,
+    w: GridWords<'_>,
     nine: [PVRTCTexelInfo; 9],
     bx: usize,
     by: usize,
     py: usize,
 ) -> [PVRTCTexelInfo; 9]
-    requires { Stands g (length «data».now) × InGrid g bx by × (py < 4) }
-    ensures { result ≡ slid g «data».now bx by py nine }
+    requires { InGrid w.grid bx by × (py < 4) }
+    ensures { result ≡ slid w.entry.grid w.entry.bytes.now bx by py nine }
 {
     let down = shares_down(py);
-    let above = word_if(data, g, bx, by, 2, down[0]);
-    let beside = word_if(data, g, bx, by, 5, down[1]);
-    let below = word_if(data, g, bx, by, 8, down[2]);
+    let above = word_if(w, bx, by, 2, down.of[0]);
+    let beside = word_if(w, bx, by, 5, down.of[1]);
+    let below = word_if(w, bx, by, 8, down.of[2]);
     [
         nine[1], nine[2], above, nine[4], nine[5], beside, nine[7], nine[8], below,
     ]

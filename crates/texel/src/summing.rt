@@ -4,9 +4,9 @@ ghost use Rattle.grid.specs.Grid.{half, block_width};
 ghost use Rattle.word.specs.Word.{Small};
 ghost use Rattle.texel.specs.Inner.{nine_of, SmallColors, Low};
 ghost use Rattle.texel.specs.Summed as spec;
-ghost use Rattle.texel.specs.Summed.{shares, three, widened, window_of, across_of, FewShares, LowColumns};
+ghost use Rattle.texel.specs.Summed.{shares, three, widened, window_of, across_of, LowColumns};
 
-use crate::{Columns, PVRTCTexelColorInt, Window};
+use crate::{Columns, PVRTCTexelColorInt, ShareRow, Window};
 use word::{PVRTCTexelColor, PVRTCTexelInfo};
 
 // The shares of the previous, the own and the next block, for each place across a block at 2bpp.
@@ -25,31 +25,34 @@ static INTERP_WEIGHT_X: [[u32; 3]; 8] = [
 static INTERP_WEIGHT_Y: [[u32; 3]; 4] = [[2, 2, 0], [1, 3, 0], [0, 4, 0], [0, 3, 1]];
 
 // The shares at the place px across a block.
-pub fn shares_across(is2bpp: bool, px: usize) -> [u32; 3]
+pub fn shares_across(is2bpp: bool, px: usize) -> ShareRow
     requires { px < block_width is2bpp }
-    ensures { result ≡ shares (half is2bpp) px }
+    ensures { result.of ≡ shares (half is2bpp) px }
 {
     if is2bpp {
-        INTERP_WEIGHT_X[px]
-    } else {
-        INTERP_WEIGHT_Y[px]
+        return ShareRow {
+            of: INTERP_WEIGHT_X[px],
+        };
     }
+    shares_down(px)
 }
 
 // The shares at the place py down a block.
-pub fn shares_down(py: usize) -> [u32; 3]
+pub fn shares_down(py: usize) -> ShareRow
     requires { py < 4 }
-    ensures { result ≡ shares 2 py }
+    ensures { result.of ≡ shares 2 py }
 {
-    INTERP_WEIGHT_Y[py]
+    ShareRow {
+        of: INTERP_WEIGHT_Y[py],
+    }
 }
 
 // Three numbers by a row of shares.
-fn by_shares(p: u32, q: u32, s: u32, row: &[u32; 3]) -> u32
-    requires { (p ≤ 124) × (q ≤ 124) × (s ≤ 124) × FewShares row.now }
-    ensures { result ≡ three row.now p q s }
+fn by_shares(p: u32, q: u32, s: u32, row: ShareRow) -> u32
+    requires { (p ≤ 124) × (q ≤ 124) × (s ≤ 124) }
+    ensures { result ≡ three row.of p q s }
 {
-    p * row[0] + q * row[1] + s * row[2]
+    p * row.of[0] + q * row.of[1] + s * row.of[2]
 }
 
 // The channels of three colours by a row of shares.
@@ -57,10 +60,10 @@ fn weighed(
     p: PVRTCTexelColorInt,
     q: PVRTCTexelColorInt,
     s: PVRTCTexelColorInt,
-    row: &[u32; 3],
+    row: ShareRow,
 ) -> PVRTCTexelColorInt
-    requires { Low 4 p × Low 4 q × Low 4 s × FewShares row.now }
-    ensures { result ≡ spec.weighed row.now p q s }
+    requires { Low 4 p × Low 4 q × Low 4 s }
+    ensures { result ≡ spec.weighed row.of p q s }
 {
     PVRTCTexelColorInt {
         r: by_shares(p.r, q.r, s.r, row),
@@ -89,18 +92,18 @@ fn column(
     above: PVRTCTexelColor,
     own: PVRTCTexelColor,
     below: PVRTCTexelColor,
-    row: &[u32; 3],
+    row: ShareRow,
 ) -> PVRTCTexelColorInt
-    requires { Small above × Small own × Small below × FewShares row.now }
-    ensures { result ≡ spec.weighed row.now (widened above) (widened own) (widened below) }
+    requires { Small above × Small own × Small below }
+    ensures { result ≡ spec.weighed row.of (widened above) (widened own) (widened below) }
 {
     weighed(above.into(), own.into(), below.into(), row)
 }
 
 // The three columns of nine words, of colour A and of B.
-pub fn sum_down(nine: &[PVRTCTexelInfo; 9], row: &[u32; 3]) -> Window
-    requires { SmallColors nine.now × FewShares row.now }
-    ensures { result ≡ window_of (nine_of nine.now) row.now }
+pub fn sum_down(nine: &[PVRTCTexelInfo; 9], row: ShareRow) -> Window
+    requires { SmallColors nine.now }
+    ensures { result ≡ window_of (nine_of nine.now) row.of }
 {
     Window {
         a: Columns {
@@ -117,9 +120,9 @@ pub fn sum_down(nine: &[PVRTCTexelInfo; 9], row: &[u32; 3]) -> Window
 }
 
 // Three columns by a row of shares.
-pub fn sum_across(columns: Columns, row: &[u32; 3]) -> PVRTCTexelColorInt
-    requires { LowColumns columns × FewShares row.now }
-    ensures { result ≡ across_of columns row.now }
+pub fn sum_across(columns: Columns, row: ShareRow) -> PVRTCTexelColorInt
+    requires { LowColumns columns }
+    ensures { result ≡ across_of columns row.of }
 {
     weighed(columns.previous, columns.own, columns.next, row)
 }

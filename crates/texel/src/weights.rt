@@ -4,8 +4,9 @@ ghost use Rattle.facts.specs.Bits.{is_set};
 ghost use Rattle.grid.specs.Grid.{half, block_width};
 ghost use Rattle.texel.specs.Texel as spec;
 ghost use Rattle.texel.specs.Texel.{filled, rule_at};
-ghost use Rattle.texel.specs.Inner.{nine_of, Place, InNine, Read};
+ghost use Rattle.texel.specs.Inner.{nine_of, Place, InNine};
 
+use crate::NineWords;
 use word::{Fill, PVRTCTexelInfo};
 
 // Which of a row of blocks has the place x across, and which of its texels across it is. (Both divisors are constants: a division by
@@ -21,31 +22,31 @@ fn across(is2bpp: bool, x: usize) -> (usize, usize)
 }
 
 // The weight stored at the place (x, y) of the nine blocks, counted from the corner of the first.
-fn near(nine: &[PVRTCTexelInfo; 9], is2bpp: bool, x: usize, y: usize) -> u32
-    requires { InNine is2bpp x y × Read is2bpp nine.now }
-    ensures { (result ≡ spec.near (half is2bpp) (nine_of nine.now) x y) × (result ≤ 8) }
+fn near(nine: NineWords<'_>, x: usize, y: usize) -> u32
+    requires { InNine nine.is2bpp x y }
+    ensures { (result ≡ spec.near (half nine.entry.is2bpp) (nine_of nine.entry.words.now) x y) × (result ≤ 8) }
 {
-    let (bx, px) = across(is2bpp, x);
+    let (bx, px) = across(nine.is2bpp, x);
     let k = 3 * (y / 4) + bx;
-    let i = grid::block_width(is2bpp) * (y % 4) + px;
-    nine[k].weight[i] as u32
+    let i = grid::block_width(nine.is2bpp) * (y % 4) + px;
+    nine.words[k].weight[i] as u32
 }
 
 // The weight that a fill rule gives there.
-fn fill(rule: Fill, nine: &[PVRTCTexelInfo; 9], is2bpp: bool, x: usize, y: usize) -> u32
-    requires { (0 < x) × (0 < y) × InNine is2bpp (x + 1) (y + 1) × Read is2bpp nine.now }
-    ensures { (result ≡ filled (half is2bpp) rule (nine_of nine.now) x y) × (result ≤ 8) }
+fn fill(rule: Fill, nine: NineWords<'_>, x: usize, y: usize) -> u32
+    requires { (0 < x) × (0 < y) × InNine nine.is2bpp (x + 1) (y + 1) }
+    ensures { (result ≡ filled (half nine.entry.is2bpp) rule (nine_of nine.entry.words.now) x y) × (result ≤ 8) }
 {
     match rule {
-        Fill::Nothing => near(nine, is2bpp, x, y),
-        Fill::Around => (near(nine, is2bpp, x, y - 1)
-            + near(nine, is2bpp, x, y + 1)
-            + near(nine, is2bpp, x - 1, y)
-            + near(nine, is2bpp, x + 1, y)
+        Fill::Nothing => near(nine, x, y),
+        Fill::Around => (near(nine, x, y - 1)
+            + near(nine, x, y + 1)
+            + near(nine, x - 1, y)
+            + near(nine, x + 1, y)
             + 2)
             / 4,
-        Fill::AboveBelow => (near(nine, is2bpp, x, y - 1) + near(nine, is2bpp, x, y + 1) + 1) / 2,
-        Fill::LeftRight => (near(nine, is2bpp, x - 1, y) + near(nine, is2bpp, x + 1, y) + 1) / 2,
+        Fill::AboveBelow => (near(nine, x, y - 1) + near(nine, x, y + 1) + 1) / 2,
+        Fill::LeftRight => (near(nine, x - 1, y) + near(nine, x + 1, y) + 1) / 2,
     }
 }
 
@@ -61,14 +62,17 @@ fn rule_at(word: PVRTCTexelInfo, px: usize, py: usize) -> Fill
     }
 }
 
-// The weight at the place (px, py) of the middle block of nine.
-pub fn weight_at(nine: &[PVRTCTexelInfo; 9], is2bpp: bool, px: usize, py: usize) -> u32
-    requires { Place is2bpp px py × Read is2bpp nine.now }
-    ensures { (result ≡ filled (half is2bpp) (rule_at (nine_of nine.now 1 1) px py) (nine_of nine.now) (px + block_width is2bpp) (py + 4)) × (result ≤ 8) }
+// The weight at the place (px, py) of the middle block of nine. A struct of px and py would be made anew at each turn of the callers' loops.
+pub fn weight_at(nine: NineWords<'_>, px: usize, py: usize) -> u32
+    requires { Place nine.is2bpp px py }
+    ensures value { result
+        ≡ filled (half nine.entry.is2bpp) (rule_at (nine_of nine.entry.words.now 1 1) px py) (nine_of nine.entry.words.now)
+        (px + block_width nine.entry.is2bpp) (py + 4) }
+    ensures bound { result ≤ 8 }
 {
-    let rule = rule_at(nine[4], px, py);
-    let width = grid::block_width(is2bpp);
-    fill(rule, nine, is2bpp, px + width, py + 4)
+    let rule = rule_at(nine.words[4], px, py);
+    let width = grid::block_width(nine.is2bpp);
+    fill(rule, nine, px + width, py + 4)
 }
 
 // Whether the texel at (px, py) of a block is punched through, by the block's flag.

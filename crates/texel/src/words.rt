@@ -1,16 +1,15 @@
 // The nine words about a block, read from the data.
 ghost use Rattle.std.specs.Prelude.{◌≡◌, ◌*◌, ◌/◌, ◌%◌, ◌<◌, ◌≤◌, length, drop};
 ghost use Rattle.grid.specs.Grid.{block_width, Power, beside};
-ghost use Rattle.grid.specs.Words.{Stands, InGrid};
+ghost use Rattle.grid.specs.Words.{InGrid};
 ghost use Rattle.word.specs.Word.{word_of};
 ghost use Rattle.texel.specs.Texel.{grid_texel};
 ghost use Rattle.texel.specs.Inner.{nine_about};
 ghost use Rattle.texel.specs.Needed.{word_about, word_if, needed_about};
-ghost use Rattle.texel.specs.Summed.{FewShares};
 
 use crate::summing::{shares_across, shares_down};
-use crate::texel_in;
-use grid::Grid;
+use crate::{ShareRow, texel_in};
+use grid::{Grid, GridWords};
 use pixel::ChannelOrder;
 use word::PVRTCTexelInfo;
 
@@ -35,73 +34,71 @@ fn neighbour(g: Grid, bx: usize, by: usize, k: usize) -> (usize, usize)
 }
 
 // The word at the address z.
-fn word_at(data: &[u8], is2bpp: bool, z: usize) -> PVRTCTexelInfo
-    requires { 8 * z ≤ length «data».now }
-    ensures { result ≡ word_of is2bpp (drop (8 * z) «data».now) }
+fn word_at(w: GridWords<'_>, z: usize) -> PVRTCTexelInfo
+    requires { 8 * z ≤ length w.bytes.now }
+    ensures { result ≡ word_of w.entry.grid.is2bpp (drop (8 * z) w.entry.bytes.now) }
 {
-    word::read_word(&data[8 * z..], is2bpp)
+    word::read_word(&w.bytes[8 * z..], w.grid.is2bpp)
 }
 
-// The nine words about block (bx, by), in row order: their addresses by quartering.
-pub fn nine_words(data: &[u8], g: Grid, bx: usize, by: usize) -> [PVRTCTexelInfo; 9]
-    requires { Stands g (length «data».now) × InGrid g bx by }
-    ensures { result ≡ nine_about g «data».now bx by }
+// The nine words about block (bx, by), in row order: their addresses by quartering. bx and by are counted by the callers' loops, so a struct of them
+// would be made anew at each turn.
+pub fn nine_words(w: GridWords<'_>, bx: usize, by: usize) -> [PVRTCTexelInfo; 9]
+    requires { InGrid w.grid bx by }
+    ensures { result ≡ nine_about w.entry.grid w.entry.bytes.now bx by }
 {
     let mut nine = [word::unread_info(); 9];
     for (k, word) in nine.iter_mut().enumerate() {
-        let (x, y) = neighbour(g, bx, by, k);
-        *word = word_at(
-            data,
-            g.is2bpp,
-            grid::morton_index(x, y, g.across.min(g.down)),
-        );
+        let (x, y) = neighbour(w.grid, bx, by, k);
+        *word = word_at(w, grid::morton_index(x, y, w.grid.smaller()));
     }
     nine
 }
 
 // Word k of the nine about block (bx, by), if it has a share, else unread: its address through the table of spread bytes.
-pub fn word_if(data: &[u8], g: Grid, bx: usize, by: usize, k: usize, share: u32) -> PVRTCTexelInfo
-    requires { Stands g (length «data».now) × InGrid g bx by × (k < 9) }
-    ensures { result ≡ word_if share (word_about g «data».now bx by k) }
+pub fn word_if(w: GridWords<'_>, bx: usize, by: usize, k: usize, share: u32) -> PVRTCTexelInfo
+    requires { InGrid w.grid bx by × (k < 9) }
+    ensures { result ≡ word_if share (word_about w.entry.grid w.entry.bytes.now bx by k) }
 {
     if share == 0 {
         return word::unread_info();
     }
-    let (x, y) = neighbour(g, bx, by, k);
-    word_at(
-        data,
-        g.is2bpp,
-        grid::morton_index_by_table(x, y, g.across.min(g.down)),
-    )
+    let (x, y) = neighbour(w.grid, bx, by, k);
+    word_at(w, grid::morton_index_by_table(x, y, w.grid.smaller()))
 }
 
 // The nine words about block (bx, by) that have a share, in row order, and the others unread.
 pub fn needed_words(
-    data: &[u8],
-    g: Grid,
+    w: GridWords<'_>,
     bx: usize,
     by: usize,
-    across: &[u32; 3],
-    down: &[u32; 3],
+    across: ShareRow,
+    down: ShareRow,
 ) -> [PVRTCTexelInfo; 9]
-    requires { Stands g (length «data».now) × InGrid g bx by × FewShares across.now × FewShares down.now }
-    ensures { result ≡ needed_about g «data».now bx by across.now down.now }
+    requires { InGrid w.grid bx by }
+    ensures { result ≡ needed_about w.entry.grid w.entry.bytes.now bx by across.of down.of }
 {
     let mut nine = [word::unread_info(); 9];
     for (k, word) in nine.iter_mut().enumerate() {
-        *word = word_if(data, g, bx, by, k, across[k % 3] * down[k / 3]);
+        *word = word_if(w, bx, by, k, across.of[k % 3] * down.of[k / 3]);
     }
     nine
 }
 
 // The texel (x, y) of a grid of blocks.
-pub fn texel_at(data: &[u8], g: Grid, x: usize, y: usize, order: ChannelOrder) -> u32
-    requires { Stands g (length «data».now) × InGrid g (x / block_width g.is2bpp) (y / 4) }
-    ensures { result ≡ grid_texel order g «data».now x y }
+pub fn texel_at(w: GridWords<'_>, x: usize, y: usize, order: ChannelOrder) -> u32
+    requires { InGrid w.grid (x / block_width w.grid.is2bpp) (y / 4) }
+    ensures { result ≡ grid_texel order w.entry.grid w.entry.bytes.now x y }
 {
-    let width = grid::block_width(g.is2bpp);
-    let across = shares_across(g.is2bpp, x % width);
-    let down = shares_down(y % 4);
-    let nine = needed_words(data, g, x / width, y / 4, &across, &down);
-    texel_in(nine, g.is2bpp, x % width, y % 4, order)
+    let is2bpp = w.grid.is2bpp;
+    let width = grid::block_width(is2bpp);
+    let (px, py) = (x % width, y % 4);
+    let nine = needed_words(
+        w,
+        x / width,
+        y / 4,
+        shares_across(is2bpp, px),
+        shares_down(py),
+    );
+    texel_in(nine, is2bpp, px, py, order)
 }

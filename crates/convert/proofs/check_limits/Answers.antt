@@ -1,9 +1,5 @@
 -- `convert::check_limits` meets its contract: the limits are asked in their order. Assumes nothing.
-use mathlib.Core.Bool.{false}
-use mathlib.Core.List.{[], ◌∷◌}
-use mathlib.Core.Path.{◌≡◌, refl, sym, ap, ◌∙◌}
-use native.Mathlib.Omega.{arith}
-use lib.Dec.{ltb}
+use Rattle.std.proofs.Common.{◌≡◌, false, ltb, [], ◌∷◌, sym, refl, ap, ◌∙◌, arith}
 use Rattle.facts.specs.Checks.{check}
 use Rattle.facts.proofs.Checks.{none_said}
 use Rattle.facts.proofs.Said.{at_exit}
@@ -46,17 +42,20 @@ pub need_of-need-requires : goal.need_of-need-requires
 need_of-need-requires c =
     let p = picture_of c.args.s in
     let short : long_side p ≡ false =
-    sym (c.has_long_side.ensures ∙ ap long_side c.picture_of-p.ensures) ∙ none_said (check c.has_long_side.result 22 ∷ []) tt (sym c.in_ok-refuse_if-4.ensures) 22 in
+    sym (c.has_long_side.ensures ∙ ap long_side c.picture_of-p.ensures)
+    ∙ none_said (check c.has_long_side.result 22 ∷ []) tt (sym c.in_ok-refuse_if-4.ensures) 22 in
     rw (c.grid_of.ensures ∙ ap grid_of c.picture_of-p.ensures) (few-across p (not-large p short), few-down p (not-large p short))
 
 pub returns-in_err-refuse_if-5 : goal.returns-in_err-refuse_if-5
 returns-in_err-refuse_if-5 c =
+    let asked : c.need_of-need.result ≡ need (picture_of c.args.s) =
+    c.need_of-need.ensures ∙ ap word_bytes (c.grid_of.ensures ∙ ap grid_of c.picture_of-p.ensures) in
     rw (at_exit c.from_residual-in_err-refuse_if-5.ensures)
     (past _ _ refl (omega arith) c.in_ok-refuse_if.ensures
     (past _ _ refl (omega arith) c.in_ok-refuse_if-2.ensures
     (past _ _ (c.has_zero_side.ensures ∙ ap zero_side c.picture_of-p.ensures) (omega arith) c.in_ok-refuse_if-3.ensures
     (past _ _ (c.has_long_side.ensures ∙ ap long_side c.picture_of-p.ensures) (omega arith) c.in_ok-refuse_if-4.ensures
-    (stopped _ _ (ap (ltb 32768) (c.need_of-need.ensures ∙ ap word_bytes (c.grid_of.ensures ∙ ap grid_of c.picture_of-p.ensures))) (number-above _) c.in_err-refuse_if-5.ensures)))))
+    (stopped _ _ (ap (ltb 32768) asked) (number-above _) c.in_err-refuse_if-5.ensures)))))
 
 pub returns : goal.returns
 returns c =

@@ -1,6 +1,5 @@
 -- `convert::decode_file` meets its contract: the header speaks, then the limits, then the block call. Assumes nothing.
-use mathlib.Core.Path.{◌≡◌, refl, ap, ◌∙◌}
-use lib.ListN.{drop}
+use Rattle.std.proofs.Common.{◌≡◌, drop, refl, ap, ◌∙◌}
 use Rattle.facts.proofs.Said.{at_exit}
 use Rattle.files.specs.declared.Stored.{Stored}
 use Rattle.files.proofs.Fields.{rest-is}
@@ -27,11 +26,13 @@ pub returns-in_err-decode_picture : goal.returns-in_err-decode_picture
 returns-in_err-decode_picture c =
     let a = c.args in
     rw (at_exit c.from_residual-in_err-decode_picture.ensures)
-    (by_call a.file.now a.image.now c.in_ok-s.ensures c.in_ok-check_limits.ensures c.requires (level-0 (goal.at.returns-in_err-decode_picture c).After-unwrap_or-data)
+    (by_call a.file.now a.image.now c.in_ok-s.ensures c.in_ok-check_limits.ensures c.requires
+    (level-0 (goal.at.returns-in_err-decode_picture c).After-unwrap_or-data)
     (rw c.picture_of.ensures at c.in_err-decode_picture.ensures) refl)
 
 pub returns : goal.returns
 returns c =
     let a = c.args in
-    by-picture a.file.now a.image.now c.in_ok-s.ensures c.in_ok-check_limits.ensures c.requires (level-0 (goal.at.returns c).After-unwrap_or-data)
+    by-picture a.file.now a.image.now c.in_ok-s.ensures c.in_ok-check_limits.ensures c.requires
+    (level-0 (goal.at.returns c).After-unwrap_or-data)
     (rw c.picture_of.ensures at c.in_ok-decode_picture.ensures) refl

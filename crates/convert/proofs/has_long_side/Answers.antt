@@ -1,5 +1,5 @@
 -- `convert::has_long_side` meets its contract. Assumes nothing.
-use borrow.Author.Tests.{lt-ltb, le-ltb}
+use Rattle.std.proofs.Common.{le-ltb, lt-ltb}
 use Rattle.convert.proofs.has_long_side.Goals as goal
 
 pub returns-then-p-gt1024 : goal.returns-then-p-gt1024

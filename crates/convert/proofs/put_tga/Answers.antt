@@ -1,6 +1,5 @@
 -- `convert::put_tga` meets its contract: the words' bytes stand behind the header. Assumes nothing.
-use native.Mathlib.Omega.{arith}
-use Rattle.std.proofs.Common.{refl}
+use Rattle.std.proofs.Common.{refl, arith}
 use Rattle.convert.proofs.Layouts.{tga-laid}
 use Rattle.convert.proofs.put_tga.Goals as goal
 

@@ -1,7 +1,5 @@
 -- `convert::put_tga_header` meets its contract. Assumes nothing.
-use mathlib.Core.Path.{ap, ◌∙◌}
-use mathlib.Core.List.{List}
-use Prim.Native.Nat.{ℕ}
+use Rattle.std.proofs.Common.{ℕ, List, ap, ◌∙◌}
 use Rattle.convert.specs.Output.{laid}
 use Rattle.convert.proofs.Layouts.{header-bytes}
 use Rattle.convert.proofs.put_tga_header.Goals as goal

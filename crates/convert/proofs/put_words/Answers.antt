@@ -1,5 +1,5 @@
 -- `convert::put_words` meets its contract. The loop keeps that the first i bytes are written. Assumes nothing.
-use native.Mathlib.Omega.{arith}
+use Rattle.std.proofs.Common.{arith}
 use Rattle.facts.proofs.Tab.{filled_none, filled_more, filled-end}
 use Rattle.convert.proofs.put_words.Goals as goal
 

@@ -1,6 +1,5 @@
 -- `convert::put_words` meets its contract. The loop keeps that the first i bytes are written. Assumes nothing.
-use Prim.Native.Nat.{◌/◌, ◌%◌}
-use lib.ListN.{get_or}
+use Rattle.std.proofs.Common.{◌/◌, ◌%◌, get_or}
 use Rattle.facts.proofs.Tab.{Filled}
 use Rattle.files.specs.Fields.{byte_of}
 use Rattle.convert.proofs.put_words.Given as goal

@@ -1,5 +1,5 @@
 -- `convert::read_file` meets its contract: the reader of the file's kind speaks. Assumes nothing.
-use mathlib.Core.Path.{refl, sym, ◌∙◌}
+use Rattle.std.proofs.Common.{sym, refl, ◌∙◌}
 use Rattle.facts.proofs.Said.{at_exit}
 use Rattle.convert.proofs.Either.{as-ktx, as-pvr}
 use Rattle.convert.proofs.Whole.{kind-refused, kind-plate}

@@ -6,4 +6,5 @@ use Rattle.files.proofs.byte_of.Goals as goal
 
 pub returns : goal.returns
 returns c =
-    c.unwrap_or.ensures ∙ ap (λ o. unwrap_or o 0) c.copied.ensures ∙ c.get.ensures.lookup.4 (omega arith) 0 ∙ ap (λ l. get_or l c.args.k 0) c.to_le_bytes.ensures ∙ bytes-written c.args.v c.args.k (omega arith)
+    c.unwrap_or.ensures ∙ ap (λ o. unwrap_or o 0) c.copied.ensures ∙ c.get.ensures.lookup.4 (omega arith) 0
+    ∙ ap (λ l. get_or l c.args.k 0) c.to_le_bytes.ensures ∙ bytes-written c.args.v c.args.k (omega arith)

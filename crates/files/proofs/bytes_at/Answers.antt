@@ -1,6 +1,5 @@
 -- `files::bytes_at` meets its contract: what is read from the rest of the file is read from the file. Assumes nothing.
-use Rattle.std.proofs.Common.{List, ℕ, drop, ◌≡◌, get_or, length-set, arith, ap, ◌∙◌, refl}
-use lib.Seq.{get_or-drop}
+use Rattle.std.proofs.Common.{◌≡◌, ℕ, List, get_or, drop, refl, ap, ◌∙◌, arith, length-set, get_or-drop}
 use Rattle.std.specs.Option.{unwrap_or}
 use Rattle.files.proofs.Fields.{rest-is, next-read}
 use Rattle.files.proofs.bytes_at.Goals as goal

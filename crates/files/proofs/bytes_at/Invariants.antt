@@ -1,7 +1,5 @@
 -- `files::bytes_at` meets its contract. The loop keeps that the first k bytes are read. Assumes nothing.
-use mathlib.Core.Path.{◌≡◌}
-use Prim.Native.Nat.{ℕ, ◌<◌}
-use lib.ListN.{length, get_or}
+use Rattle.std.proofs.Common.{◌≡◌, ℕ, ◌<◌, length, get_or}
 use Rattle.files.proofs.bytes_at.Given as goal
 
 abbrev pub invariant-loop-k : goal.invariant-loop-k

@@ -1,5 +1,5 @@
 -- `files::starts_with` meets its contract: the library's comparison is the definition's. Assumes nothing.
-use mathlib.Core.Path.{◌∙◌}
+use Rattle.std.proofs.Common.{◌∙◌}
 use Rattle.files.proofs.Starts.{start-compared}
 use Rattle.files.proofs.starts_with.Goals as goal
 

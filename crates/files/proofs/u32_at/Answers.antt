@@ -1,6 +1,5 @@
 -- `files::u32_at` meets its contract: the four bytes, put together, are the definition's number. Assumes nothing.
-use mathlib.Core.Path.{◌∙◌}
-use native.Mathlib.Omega.{arith}
+use Rattle.std.proofs.Common.{◌∙◌, arith}
 use Rattle.files.proofs.Fields.{four-read}
 use Rattle.files.proofs.u32_at.Goals as goal
 

@@ -1,5 +1,5 @@
 -- `files::u64_at` meets its contract: the eight bytes, put together, are the definition's number. Assumes nothing.
-use mathlib.Core.Path.{◌∙◌}
+use Rattle.std.proofs.Common.{◌∙◌}
 use Rattle.files.proofs.Fields.{eight-read}
 use Rattle.files.proofs.u64_at.Goals as goal
 

@@ -1,5 +1,5 @@
 -- `pvr::are_known_flags` meets its contract. Assumes nothing.
-use borrow.Author.Tests.{eq-eqb, ne_eqb}
+use Rattle.std.proofs.Common.{eq-eqb, ne_eqb}
 use Rattle.pvr.proofs.are_known_flags.Goals as goal
 
 pub returns-then-flags-eq0 : goal.returns-then-flags-eq0

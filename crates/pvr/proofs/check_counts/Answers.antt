@@ -1,9 +1,5 @@
 -- `pvr::check_counts` meets its contract: the counts are asked in their order. Assumes nothing.
-use mathlib.Core.Bool.{not}
-use mathlib.Core.Path.{◌≡◌, ap}
-use Prim.Native.Nat.{ℕ}
-use native.Mathlib.Omega.{arith}
-use lib.Dec.{eqb}
+use Rattle.std.proofs.Common.{◌≡◌, ℕ, not, eqb, ap, arith}
 use Rattle.facts.proofs.Said.{at_exit}
 use Rattle.files.proofs.Answers.{past, stopped}
 use Rattle.pvr.specs.Numbers.{number-above}

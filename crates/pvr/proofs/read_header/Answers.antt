@@ -1,9 +1,5 @@
 -- `pvr::read_header` meets its contract: the checks are made in their order, and past the last the fields are those of the definition. Assumes nothing.
-use mathlib.Core.Bool.{not}
-use mathlib.Core.Path.{◌≡◌, refl, sym, ap, ◌∙◌}
-use Prim.Native.Nat.{ℕ}
-use native.Mathlib.Omega.{arith}
-use lib.Dec.{ltb}
+use Rattle.std.proofs.Common.{◌≡◌, ℕ, not, ltb, sym, refl, ap, ◌∙◌, arith}
 use Rattle.facts.proofs.Said.{at_exit}
 use Rattle.files.proofs.Answers.{past, stopped}
 use Rattle.pvr.specs.Header.{known_flags, header_refusal}

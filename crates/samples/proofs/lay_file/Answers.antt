@@ -1,6 +1,5 @@
 -- `samples::lay_file` meets its contract. The loop keeps that the first k bytes are laid. Assumes nothing.
-use mathlib.Core.Path.{refl}
-use native.Mathlib.Omega.{arith}
+use Rattle.std.proofs.Common.{refl, arith}
 use Rattle.facts.proofs.Tab.{filled_none, filled_more, filled-end}
 use Rattle.samples.proofs.lay_file.Goals as goal
 

@@ -1,6 +1,5 @@
 -- `samples::set_byte` meets its contract: past the end there is nothing to set. Assumes nothing.
-use mathlib.Core.Path.{sym}
-use native.Mathlib.Omega.{arith}
+use Rattle.std.proofs.Common.{sym, arith}
 use Rattle.samples.proofs.Laws.{set_past}
 use Rattle.samples.proofs.set_byte.Goals as goal
 

@@ -1,5 +1,5 @@
 -- `samples::set_u32` meets its contract. The loop keeps that the first k bytes of the number are put. Assumes nothing.
-use mathlib.Core.Path.{◌≡◌}
+use Rattle.std.proofs.Common.{◌≡◌}
 use Rattle.samples.proofs.Laws.{placed}
 use Rattle.samples.proofs.set_u32.Given as goal
 

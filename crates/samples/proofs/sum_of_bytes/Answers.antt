@@ -1,8 +1,5 @@
 -- `samples::sum_of_bytes` meets its contract. The loop keeps the checksum of those so far. Assumes nothing.
-use mathlib.Core.Path.{◌≡◌, refl, ap, ◌∙◌}
-use Prim.Native.Nat.{ℕ, ◌+◌, ◌*◌, ◌%◌}
-use native.Mathlib.Omega.{arith}
-use lib.ListN.{length}
+use Rattle.std.proofs.Common.{◌≡◌, ℕ, ◌+◌, ◌*◌, ◌%◌, length, refl, ap, ◌∙◌, arith}
 use Rattle.samples.specs.Sums.{checksum}
 use Rattle.samples.proofs.Laws.{sum_more}
 use Rattle.samples.proofs.sum_of_bytes.Goals as goal

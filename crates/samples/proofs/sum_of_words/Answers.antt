@@ -1,7 +1,5 @@
 -- `samples::sum_of_words` meets its contract. The loop keeps the checksum of those so far. Assumes nothing.
-use mathlib.Core.Path.{◌≡◌, refl, ap, ◌∙◌}
-use native.Mathlib.Omega.{arith}
-use lib.ListN.{length}
+use Rattle.std.proofs.Common.{◌≡◌, length, refl, ap, ◌∙◌, arith}
 use Rattle.samples.specs.Sums.{checksum}
 use Rattle.samples.proofs.Laws.{sum_more}
 use Rattle.samples.proofs.sum_of_words.Goals as goal

@@ -1,5 +1,5 @@
 -- `samples::sum_of_words` meets its contract. The loop keeps the checksum of those so far. Assumes nothing.
-use mathlib.Core.Path.{◌≡◌}
+use Rattle.std.proofs.Common.{◌≡◌}
 use Rattle.samples.specs.Sums.{checksum}
 use Rattle.samples.proofs.sum_of_words.Given as goal
 

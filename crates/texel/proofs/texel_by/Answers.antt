@@ -1,27 +1,19 @@
 -- `texel::texel_by` meets its contract: `Made` puts the parts together. Assumes nothing.
 use Rattle.texel.specs.Inner.{nine_of}
-use Rattle.texel.proofs.Across.{few-across, low-across}
+use Rattle.texel.proofs.Across.{low-across}
 use Rattle.texel.proofs.Made.{texel}
 use Rattle.texel.proofs.texel_by.Goals as goal
 
-pub sum_across-requires : goal.sum_across-requires
-sum_across-requires c =
-    (c.requires.2.a, few-across c.args.is2bpp c.args.px c.requires.0.across c.shares_across-row.ensures)
-
 pub scale-a-requires : goal.scale-a-requires
 scale-a-requires c =
-    low-across c.args.is2bpp c.args.px c.args.window.a c.requires.0.across c.requires.2.a c.shares_across-row.ensures c.sum_across.ensures
-
-pub sum_across-requires-2 : goal.sum_across-requires-2
-sum_across-requires-2 c =
-    (c.requires.2.b, few-across c.args.is2bpp c.args.px c.requires.0.across c.shares_across-row.ensures)
+    low-across c.args.nine.is2bpp c.args.px c.args.window.a c.requires.0.across c.requires.1.a c.shares_across-row.ensures c.sum_across.ensures
 
 pub scale-b-requires : goal.scale-b-requires
 scale-b-requires c =
-    low-across c.args.is2bpp c.args.px c.args.window.b c.requires.0.across c.requires.2.b c.shares_across-row.ensures c.sum_across-2.ensures
+    low-across c.args.nine.is2bpp c.args.px c.args.window.b c.requires.0.across c.requires.1.b c.shares_across-row.ensures c.sum_across-2.ensures
 
 pub returns : goal.returns
 returns c =
     let a = c.args in
-    texel a.order a.is2bpp (nine_of a.nine.now) a.window a.px a.py c.shares_across-row.ensures c.sum_across.ensures
-    c.scale-a.ensures.0 c.sum_across-2.ensures c.scale-b.ensures.0 c.weight_at-w.ensures.0 c.punched-is_punched.ensures c.mix.ensures
+    texel a.order a.nine.is2bpp (nine_of a.nine.words.now) a.window a.px a.py c.shares_across-row.ensures c.sum_across.ensures
+    c.scale-a.ensures.0 c.sum_across-2.ensures c.scale-b.ensures.0 c.weight_at-w.ensures.value c.punched-is_punched.ensures c.mix.ensures

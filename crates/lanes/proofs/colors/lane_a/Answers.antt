@@ -1,5 +1,5 @@
 -- `lanes::colors::lane_a` meets its contract, both where the colour is opaque and where it is not. Assumes nothing.
-use Rattle.std.proofs.Common.{ap₂, ◌∙◌, cond, ◌+◌, ◌*◌, ◌/◌, ◌%◌, arith}
+use Rattle.std.proofs.Common.{◌+◌, ◌*◌, ◌/◌, ◌%◌, cond, ◌∙◌, ap₂, arith}
 use Rattle.word.specs.Word.{opaque}
 use Rattle.lanes.proofs.Fields.{color-lanes, opaque-a, clear-a}
 use Rattle.lanes.proofs.colors.lane_a.Goals as goal

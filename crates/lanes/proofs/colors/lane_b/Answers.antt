@@ -1,5 +1,5 @@
 -- `lanes::colors::lane_b` meets its contract, both where the colour is opaque and where it is not. Assumes nothing.
-use Rattle.std.proofs.Common.{◌≡◌, ap, ap₂, ◌∙◌, cond, ℕ, ◌+◌, ◌*◌, ◌/◌, ◌%◌, arith}
+use Rattle.std.proofs.Common.{◌≡◌, ℕ, ◌+◌, ◌*◌, ◌/◌, ◌%◌, cond, ap, ◌∙◌, ap₂, arith}
 use Rattle.word.specs.Word.{opaque, color_of}
 use Rattle.lanes.specs.Lanes.{color_lanes}
 use Rattle.lanes.proofs.Fields.{color-lanes, opaque-b, clear-b}

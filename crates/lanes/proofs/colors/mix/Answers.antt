@@ -1,5 +1,5 @@
 -- `lanes::colors::mix` meets its contract: what is kept stays within 32 bits. Assumes nothing.
-use Rattle.std.proofs.Common.{◌+◌, ◌*◌, ◌/◌, ◌-◌, arith}
+use Rattle.std.proofs.Common.{◌+◌, ◌-◌, ◌*◌, ◌/◌, arith}
 use Rattle.lanes.specs.Lanes.{bias}
 use Rattle.lanes.proofs.Lane.{one_word}
 use Rattle.lanes.proofs.colors.mix.Goals as goal

@@ -1,5 +1,5 @@
 -- `lanes::filling::bits_row` meets its contract: it computes the definition. Assumes nothing.
-use Rattle.std.proofs.Common.{refl, ◌+◌, ◌*◌, ◌/◌, bit_and}
+use Rattle.std.proofs.Common.{◌+◌, ◌*◌, ◌/◌, bit_and, refl}
 use lib.Bits.{and_le_r}
 use Rattle.lanes.specs.Block2bpp.{bit_row}
 use Rattle.lanes.proofs.filling.bits_row.Goals as goal

@@ -1,5 +1,5 @@
 -- `lanes::filling::codes_row` meets its contract: it computes the definition. Assumes nothing.
-use Rattle.std.proofs.Common.{refl, arith, ℕ, ◌*◌, ◌≤◌, bit_and}
+use Rattle.std.proofs.Common.{ℕ, ◌*◌, ◌≤◌, bit_and, refl, arith}
 use lib.Bits.{and_le_r}
 use Rattle.lanes.specs.Block2bpp.{code_row}
 use Rattle.lanes.proofs.filling.codes_row.Goals as goal

@@ -1,5 +1,5 @@
 -- `lanes::filling::first_row` meets its contract: `Stored` has it for each of the 256 bytes. Assumes nothing.
-use Rattle.std.proofs.Common.{ap, ◌∙◌, ℕ, ◌+◌, ◌*◌, ◌/◌, arith}
+use Rattle.std.proofs.Common.{ℕ, ◌+◌, ◌*◌, ◌/◌, ap, ◌∙◌, arith}
 use Rattle.lanes.proofs.Stored.{first_form, first-is}
 use Rattle.lanes.proofs.filling.first_row.Goals as goal
 

@@ -1,5 +1,5 @@
 -- `lanes::filling::odd_row` meets its contract: `Stored` has it for each of the 256 bytes. Assumes nothing.
-use Rattle.std.proofs.Common.{ap₂, ◌∙◌, cond, ℕ, ◌*◌, arith}
+use Rattle.std.proofs.Common.{ℕ, ◌*◌, cond, ◌∙◌, ap₂, arith}
 use Rattle.lanes.proofs.Stored.{odd_is}
 use Rattle.lanes.proofs.filling.odd_row.Goals as goal
 

@@ -1,5 +1,5 @@
 -- `lanes::filling::third_row` meets its contract: `Stored` has it for each of the 256 bytes. Assumes nothing.
-use Rattle.std.proofs.Common.{ap, ◌∙◌, cond, ℕ, ◌+◌, ◌-◌, ◌*◌, ◌/◌, ◌%◌, arith}
+use Rattle.std.proofs.Common.{ℕ, ◌+◌, ◌-◌, ◌*◌, ◌/◌, ◌%◌, cond, ap, ◌∙◌, arith}
 use Rattle.lanes.proofs.Stored.{third_form, third-is}
 use Rattle.lanes.proofs.filling.third_row.Goals as goal
 

@@ -1,5 +1,5 @@
 -- `lanes::places::spread` meets its contract, byte by byte. Assumes nothing.
-use Rattle.std.proofs.Common.{◌%◌, ◌/◌, arith}
+use Rattle.std.proofs.Common.{◌/◌, ◌%◌, arith}
 use Rattle.grid.proofs.Spreading.{spread-lt, spread-add, spread-mod}
 use Rattle.lanes.proofs.places.spread.Goals as goal
 

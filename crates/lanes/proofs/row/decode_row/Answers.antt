@@ -1,5 +1,5 @@
 -- `lanes::row::decode_row` meets its contract. The loop keeps the window before block bx and the blocks laid so far. Assumes nothing.
-use Rattle.std.proofs.Common.{refl, arith}
+use Rattle.std.proofs.Common.{ℕ, refl, arith}
 use Rattle.paint.proofs.Sheets.{no_blocks}
 use Rattle.lanes.specs.Block.{in_block}
 use Rattle.lanes.proofs.Placing.{first-column, last-column, row-at, asked, starts, width_is}
@@ -60,7 +60,8 @@ loop-bx-preserved g c =
     let right = block-seen depth.stored depth.Good a.order d r bx 2 c.next_column-next.ensures c.block_at-right.ensures.is c.block_at-right.ensures.good in
     let said = c.fill-said.ensures (nine_about a.g a.by d bx) (said-is window.left) (said-is window.own) (said-is right) (middle window.own) in
     let starts = starts a.g.is2bpp (width_is c.HALF-width.ensures half p.1) c.num_blocks_x-bx-end.ensures c.loop-bx-test.true in
-    let block = in_block depth.HALF (λ y. depth.says (depth.row_of c.fill-said.result y)) c.loop-bx.left.column c.loop-bx.own.column c.block_at-right.result.column in
+    let says = λ (y : ℕ). depth.says (depth.row_of c.fill-said.result y) in
+    let block = in_block depth.HALF says c.loop-bx.left.column c.loop-bx.own.column c.block_at-right.result.column in
     let same = texels window right half (width_is c.HALF-width.ensures half refl) p.1 said in (
       omega (arith, c.loop-bx-test.true),
       slide window right,

@@ -7,8 +7,9 @@ use Rattle.lanes.proofs.row.lay_block.Given as goal
 abbrev pub invariant-loop-j : goal.invariant-loop-j
 invariant-loop-j g l =
     let depth = g.M.Modulation in
-    (l.j ≤ l.part.height)
-    × Part (in_block depth.HALF (λ y. depth.says (depth.row_of l.said y)) l.left l.own l.right) l.initial.image l.part.start l.part.stride l.part.width l.j l.image
+    let part = l.part in
+    (l.j ≤ part.height)
+    × Part (in_block depth.HALF (λ y. depth.says (depth.row_of l.said y)) l.left l.own l.right) l.initial.image part.start part.stride part.width l.j l.image
 
 abbrev pub decreases-loop-j : goal.decreases-loop-j
 decreases-loop-j g l = l.part.height - l.j

@@ -1,5 +1,5 @@
 -- `levels::check::check_size_word` meets its contract: the end of the file, then the word itself. Assumes nothing.
-use Rattle.std.proofs.Common.{ℕ, [], ◌∷◌, not, eqb, refl, ap, ◌∙◌, arith}
+use Rattle.std.proofs.Common.{ℕ, not, eqb, [], ◌∷◌, refl, ap, ◌∙◌, arith}
 use Rattle.facts.specs.Checks.{check, first_of}
 use Rattle.facts.proofs.Said.{at_exit}
 use Rattle.files.proofs.Answers.{past, stopped}

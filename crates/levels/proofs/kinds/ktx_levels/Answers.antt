@@ -1,5 +1,5 @@
 -- `levels::kinds::ktx_levels` meets its contract. Assumes nothing.
-use Rattle.std.proofs.Common.{ℕ, [], ◌∷◌, ltb, length, ap, ◌∙◌}
+use Rattle.std.proofs.Common.{ℕ, ltb, [], ◌∷◌, length, ap, ◌∙◌}
 use Rattle.facts.specs.Checks.{check, first_of}
 use Rattle.facts.proofs.Said.{at_exit}
 use Rattle.levels.proofs.Answers.{by-refusal, ktx-refused, by-cut, ktx-found}

@@ -1,6 +1,5 @@
 -- `levels::place::level_at` meets its contract: after i steps it is at level i. The measure is how many are left. Assumes nothing.
-use mathlib.Core.Path.{◌≡◌, ap, ◌∙◌}
-use native.Mathlib.Omega.{arith}
+use Rattle.std.proofs.Common.{◌≡◌, ap, ◌∙◌, arith}
 use Rattle.levels.specs.Inner.{next_level}
 use Rattle.levels.specs.Levels.{level_at}
 use Rattle.levels.proofs.Ranges.{first-is, next-is, small_at}

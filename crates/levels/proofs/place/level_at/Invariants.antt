@@ -1,6 +1,5 @@
 -- `levels::place::level_at` meets its contract: after i steps it is at level i. The measure is how many are left. Assumes nothing.
-use mathlib.Core.Path.{◌≡◌}
-use Prim.Native.Nat.{◌-◌, ◌≤◌}
+use Rattle.std.proofs.Common.{◌≡◌, ◌-◌, ◌≤◌}
 use Rattle.levels.specs.Levels.{level_at}
 use Rattle.levels.proofs.place.level_at.Given as goal
 

@@ -1,7 +1,5 @@
 -- `levels::place::need_of` meets its contract. Assumes nothing.
-use mathlib.Core.Bool.{Bool, false}
-use mathlib.Core.Path.{◌≡◌, ap, ◌∙◌}
-use Prim.Native.Nat.{ℕ, ◌≤◌}
+use Rattle.std.proofs.Common.{◌≡◌, ℕ, ◌≤◌, Bool, false, ap, ◌∙◌}
 use Rattle.grid.specs.Words.{word_bytes}
 use Rattle.pixel.specs.declared.ChannelOrder.TheVariants.{BlueFirst}
 use Rattle.pvrtc.specs.Picture.{picture, grid_of}

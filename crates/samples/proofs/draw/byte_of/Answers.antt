@@ -1,5 +1,5 @@
 -- `draw::byte_of` meets its contract, by which of the two bytes it is. Assumes nothing.
-use borrow.Author.Tests.{eq-eqb, ne_eqb}
+use Rattle.std.proofs.Common.{eq-eqb, ne_eqb}
 use Rattle.samples.proofs.draw.byte_of.Goals as goal
 
 pub returns-then-i-eq0 : goal.returns-then-i-eq0

@@ -1,7 +1,5 @@
 -- `draw::draw_bytes` meets its contract. The loop keeps that the first i bytes are drawn, in half as many steps. Assumes nothing.
-use mathlib.Core.Path.{◌≡◌, refl, ap, ◌∙◌}
-use Prim.Native.Nat.{ℕ, ◌+◌, ◌/◌}
-use native.Mathlib.Omega.{arith}
+use Rattle.std.proofs.Common.{◌≡◌, ℕ, ◌+◌, ◌/◌, refl, ap, ◌∙◌, arith}
 use Rattle.facts.proofs.Tab.{filled_none, filled_more}
 use Rattle.samples.specs.Draw.{state_after, byte_of}
 use Rattle.samples.proofs.Drawing.{step-to-byte, drawn-end}

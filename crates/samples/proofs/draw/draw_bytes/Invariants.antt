@@ -1,6 +1,5 @@
 -- `draw::draw_bytes` meets its contract. The loop keeps that the first i bytes are drawn, in half as many steps. Assumes nothing.
-use mathlib.Core.Path.{◌≡◌}
-use Prim.Native.Nat.{◌+◌, ◌/◌}
+use Rattle.std.proofs.Common.{◌≡◌, ◌+◌, ◌/◌}
 use Rattle.facts.proofs.Tab.{Filled}
 use Rattle.samples.specs.Draw.{state_after, drawn_byte}
 use Rattle.samples.proofs.draw.draw_bytes.Given as goal

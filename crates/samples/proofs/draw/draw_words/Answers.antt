@@ -1,7 +1,5 @@
 -- `draw::draw_words` meets its contract. The loop keeps that the words so far are drawn, in twice as many steps. Assumes nothing.
-use mathlib.Core.Path.{◌≡◌, refl, ap, ◌∙◌}
-use Prim.Native.Nat.{◌+◌, ◌*◌}
-use native.Mathlib.Omega.{arith}
+use Rattle.std.proofs.Common.{◌≡◌, ◌+◌, ◌*◌, refl, ap, ◌∙◌, arith}
 use Rattle.facts.proofs.Tab.{filled_none, filled_more}
 use Rattle.samples.specs.Draw.{state_after}
 use Rattle.samples.proofs.Drawing.{step-more, drawn-end}

@@ -1,6 +1,5 @@
 -- `draw::draw_words` meets its contract. The loop keeps that the words so far are drawn, in twice as many steps. Assumes nothing.
-use mathlib.Core.Path.{◌≡◌}
-use Prim.Native.Nat.{◌*◌}
+use Rattle.std.proofs.Common.{◌≡◌, ◌*◌}
 use Rattle.facts.proofs.Tab.{Filled}
 use Rattle.samples.specs.Draw.{state_after, drawn_word}
 use Rattle.samples.proofs.draw.draw_words.Given as goal

@@ -1,6 +1,5 @@
 -- `draw::step_before` meets its contract, by whether a step is made. Assumes nothing.
-use mathlib.Core.Path.{sym, ◌∙◌}
-use borrow.Author.Tests.{eq-eqb, ne_eqb}
+use Rattle.std.proofs.Common.{sym, ◌∙◌, eq-eqb, ne_eqb}
 use Rattle.samples.proofs.draw.step_before.Goals as goal
 
 pub returns-then-i-eq0 : goal.returns-then-i-eq0

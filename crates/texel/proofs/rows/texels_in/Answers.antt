@@ -1,12 +1,8 @@
 -- `texel::rows::texels_in` meets its contract. The loop keeps that the first i texels are stored. Assumes nothing.
 use Rattle.std.proofs.Common.{◌≡◌, ap, ◌∙◌, List, ◌++◌, ℕ, arith, length, take, drop, length-take-le}
 use Rattle.facts.proofs.Tab.{filled_none, filled_more, filled-end}
-use Rattle.texel.proofs.Across.{few-shares, window-low, with-texels}
+use Rattle.texel.proofs.Across.{window-low, with-texels}
 use Rattle.texel.proofs.rows.texels_in.Goals as goal
-
-pub sum_down-window-requires : goal.sum_down-window-requires
-sum_down-window-requires c =
-    (c.requires.2.small, rw c.shares_down.ensures (few-shares 2 c.args.py (omega arith) c.requires.1))
 
 pub loop-i-init : goal.loop-i-init
 loop-i-init c = filled_none _ _
@@ -16,7 +12,6 @@ texel_by-requires c =
     let p = c.requires in
     let all : length (take c.args.count c.args.texels.now) ≡ c.args.count = length-take-le c.args.count c.args.texels.now p.3 in (
       record { across = omega arith; down = p.1 },
-      p.2,
       rw (c.sum_down-window.ensures, c.shares_down.ensures) (window-low c.args.nine c.args.py p.2.small p.1),
     )
 

@@ -9,4 +9,4 @@ use Rattle.texel.proofs.rows.texels_in.Given as goal
 
 abbrev pub invariant-loop-i : goal.invariant-loop-i
 invariant-loop-i l =
-    Filled (λ i'. packed l.order (texel_by (half l.is2bpp) (nine_of l.nine) l.window (l.px + i') l.py)) l.initial.texel-items l.i l.texel-items
+    Filled (λ i'. packed l.order (texel_by (half l.nine.is2bpp) (nine_of l.nine.words.now) l.window (l.px + i') l.py)) l.initial.texel-items l.i l.texel-items

@@ -1,15 +1,10 @@
 -- `texel::summing::shares_across` meets its contract, by the depth. Assumes nothing.
-use Rattle.std.proofs.Common.{◌∙◌, true, false, ◌<◌}
+use Rattle.std.proofs.Common.{◌∙◌, true, ◌<◌}
 use Rattle.grid.specs.Grid.{block_width}
-use Rattle.texel.proofs.Across.{wide-is, narrow-is, row_at}
+use Rattle.texel.proofs.Across.{wide-is, row_at}
 use Rattle.texel.proofs.summing.shares_across.Goals as goal
 
 pub returns-then-is2bpp : goal.returns-then-is2bpp
 returns-then-is2bpp c =
     let l : c.args.px < block_width true = rw c.if-is2bpp.true at c.requires in
     row_at 4 c.args.px wide-is l ∙ rw c.if-is2bpp.true
-
-pub returns-else-is2bpp : goal.returns-else-is2bpp
-returns-else-is2bpp c =
-    let l : c.args.px < block_width false = rw c.if-is2bpp.false at c.requires in
-    row_at 2 c.args.px narrow-is l ∙ rw c.if-is2bpp.false

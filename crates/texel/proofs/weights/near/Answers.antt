@@ -5,6 +5,7 @@ use Rattle.texel.proofs.weights.near.Goals as goal
 pub returns : goal.returns
 returns c =
     let a = c.args in
+    let two = a.nine.is2bpp in
     let at = c.across-bx.ensures in
     let w = c.block_width.ensures in
-    (near-is a.is2bpp a.nine.now a.x a.y w at.0 at.1, c.requires.1.low _ _ (in-nine a.is2bpp a.x a.y c.requires.0 at.0) (in-block a.is2bpp a.x a.y w at.1))
+    (near-is two a.nine.words.now a.x a.y w at.0 at.1, a.nine.read.low _ _ (in-nine two a.x a.y c.requires at.0) (in-block two a.x a.y w at.1))

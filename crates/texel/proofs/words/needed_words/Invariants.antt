@@ -6,4 +6,5 @@ use Rattle.texel.proofs.words.needed_words.Given as goal
 
 abbrev pub invariant-loop-k : goal.invariant-loop-k
 invariant-loop-k l =
-    Filled (λ k'. word_if (get_or l.across (k' % 3) 0 * get_or l.down (k' / 3) 0) (word_about l.g l.data l.bx l.by k')) l.initial.word-items l.k l.word-items
+    Filled (λ k'. word_if (get_or l.across.of (k' % 3) 0 * get_or l.down.of (k' / 3) 0) (word_about l.w.grid l.w.bytes.now l.bx l.by k'))
+    l.initial.word-items l.k l.word-items

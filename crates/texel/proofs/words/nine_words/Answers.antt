@@ -11,18 +11,18 @@ loop-k-init c = filled_none _ _
 pub morton_index-requires : goal.morton_index-requires
 morton_index-requires c =
     let n = c.neighbour-x.ensures in
-    placed-there c.requires.0 _ _ _ n.0 n.1 c.min.ensures
+    placed-there c.args.w.stands _ _ _ n.0 n.1 c.smaller.ensures
 
 pub word_at-requires : goal.word_at-requires
 word_at-requires c =
     let n = c.neighbour-x.ensures in
-    in-data c.requires.0 _ _ _ n.0 n.1 c.min.ensures c.morton_index.ensures
+    in-data c.args.w.stands _ _ _ n.0 n.1 c.smaller.ensures c.morton_index.ensures
 
 pub loop-k-preserved : goal.loop-k-preserved
 loop-k-preserved c =
     let n = c.neighbour-x.ensures in
     filled_more c.loop-k.invariant
-    (word-there c.requires.0 _ _ _ n.0 n.1 c.min.ensures c.morton_index.ensures _ c.word_at.ensures)
+    (word-there c.args.w.stands _ _ _ n.0 n.1 c.smaller.ensures c.morton_index.ensures _ c.word_at.ensures)
     (omega arith)
 
 pub returns : goal.returns

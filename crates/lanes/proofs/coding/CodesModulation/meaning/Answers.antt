@@ -1,5 +1,5 @@
 -- `meaning` of `lanes::Codes` meets its contract, at each of the eight codes. Assumes nothing.
-use Rattle.std.proofs.Common.{◌≡◌, refl, ℕ, zero, suc, ◌*◌, ◌/◌, ◌%◌, ◌^◌, ◌<◌, ◌≤◌, Bool, true, false, cond, ◌&&◌, eqb, List, [], ◌∷◌, slice_index_or, arith}
+use Rattle.std.proofs.Common.{◌≡◌, ℕ, zero, suc, ◌*◌, ◌/◌, ◌%◌, ◌^◌, ◌<◌, ◌≤◌, Bool, true, false, cond, ◌&&◌, eqb, List, [], ◌∷◌, slice_index_or, refl, arith}
 use mir.Val.{bool_byte}
 use Rattle.word.specs.Word.{standard_weight, punch_through_weight}
 use Rattle.lanes.specs.declared.Meaning.{Meaning}
@@ -7,13 +7,15 @@ use Rattle.lanes.specs.Block4bpp.{code_meaning}
 use Rattle.lanes.specs.Lanes.{bytes, clear, Mask}
 use Rattle.lanes.proofs.coding.CodesModulation.meaning.Goals as goal
 
+-- a code that is kept whole
+abbrev whole : ℕ → Meaning
+whole w = record { weight = w; keep = bytes }
+
 -- what mode p's code k is read as
 abbrev told : Bool → ℕ → Meaning
 told p k =
     slice_index_or (slice_index_or {A = List Meaning} (
-    (record { weight = 0; keep = bytes } ∷ record { weight = 3; keep = bytes } ∷ record { weight = 5; keep = bytes } ∷ record { weight = 8; keep = bytes } ∷ [])
-    ∷ (record { weight = 0; keep = bytes } ∷ record { weight = 4; keep = bytes } ∷ record { weight = 4; keep = clear } ∷ record { weight = 8; keep = bytes } ∷ [])
-    ∷ []
+    (whole 0 ∷ whole 3 ∷ whole 5 ∷ whole 8 ∷ []) ∷ (whole 0 ∷ whole 4 ∷ record { weight = 4; keep = clear } ∷ whole 8 ∷ []) ∷ []
     ) (bool_byte p) []) k (record { weight = 0; keep = 0 })
 
 abbrev Means : Bool → ℕ → Meaning → Type 0
