@@ -2,7 +2,7 @@
 // and the block call of either name on a picture's description.
 #![tactic(auto)]
 
-ghost use Rattle.std.specs.Prelude.{◌≡◌, ◌*◌, length, min, Result, Some};
+ghost use Rattle.std.specs.Prelude.{◌≡◌, ◌*◌, length, min, take, Result, Some};
 ghost use Rattle.std.specs.Fn.{FnOnceReturnsAtMut};
 ghost use Rattle.facts.specs.Checks.{number_said};
 ghost use Rattle.samples.specs.Draw.{state_after};
@@ -142,6 +142,13 @@ impl Case<'_> {
         let mut room = [0; 8256];
         samples::draw_words(&mut room[..self.words.min(8256)], self.state)
     }
+}
+
+// The first so many bytes, or all.
+pub fn first(data: &[u8], count: usize) -> &[u8]
+    ensures { result.now ≡ take count «data».now }
+{
+    &data[..count.min(data.len())]
 }
 
 // A picture in the Rust's mode, and in its order.

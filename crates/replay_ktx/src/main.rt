@@ -219,7 +219,7 @@ fn lay(bytes: &mut [u8], case: Case) {
 
 // What the calls answer for the first `end` bytes of a file, and so many words.
 fn print_answers(out: &mut impl Write, bytes: &[u8], end: usize, room: usize) -> io::Result<()> {
-    let file = &bytes[..end.min(bytes.len())];
+    let file = listing::first(bytes, end);
     print_header(out, file)?;
     let blue_first = decode(file, room, ChannelOrder::BlueFirst);
     write!(out, "; picture {blue_first}; program ")?;

@@ -189,17 +189,41 @@ fn print_decoded(
     k: usize,
     order: ChannelOrder,
 ) -> io::Result<()> {
-    print_tried(out, bytes, 6000, k, 6000, order)?;
+    print_tried(out, bytes, k, 6000, order)?;
     if let Ok(level) = levels::read_level(bytes, k) {
         let start = level.start;
         let end = start.saturating_add(level.need);
         let room = level.width.saturating_mul(level.height);
-        print_tried(out, bytes, end, k, room, order)?;
-        print_tried(out, bytes, end, k, room.saturating_sub(1), order)?;
-        print_tried(out, bytes, end.saturating_sub(1), k, room, order)?;
-        print_tried(out, bytes, start, k, room, order)?;
-        print_tried(out, bytes, start.saturating_sub(2), k, room, order)?;
-        print_tried(out, bytes, start.saturating_sub(4), k, room, order)?;
+        print_tried(out, listing::first(bytes, end), k, room, order)?;
+        print_tried(
+            out,
+            listing::first(bytes, end),
+            k,
+            room.saturating_sub(1),
+            order,
+        )?;
+        print_tried(
+            out,
+            listing::first(bytes, end.saturating_sub(1)),
+            k,
+            room,
+            order,
+        )?;
+        print_tried(out, listing::first(bytes, start), k, room, order)?;
+        print_tried(
+            out,
+            listing::first(bytes, start.saturating_sub(2)),
+            k,
+            room,
+            order,
+        )?;
+        print_tried(
+            out,
+            listing::first(bytes, start.saturating_sub(4)),
+            k,
+            room,
+            order,
+        )?;
     }
     writeln!(out)
 }
@@ -243,9 +267,10 @@ fn print_two(
     } else {
         6000
     };
-    print_answers(out, bytes, end_with(&faults, case), k, room)?;
+    let file = listing::first(bytes, end_with(&faults, case));
+    print_answers(out, file, k, room)?;
     writeln!(out)?;
-    print_red_first(out, bytes, end_with(&faults, case), k, room)
+    print_red_first(out, file, k, room)
 }
 
 // A plate of 8 by 64 texels at 4bpp, with what refusals are given for, as far as it is chosen. With a large side the rows are 65,600, of which level
@@ -335,9 +360,9 @@ fn print_flags(out: &mut impl Write, bytes: &mut [u8]) -> io::Result<()> {
                 fault.bring(bytes);
                 write!(out, " {fault}")?;
             }
-            print_answers(out, bytes, 6000, 1, 6000)?;
+            print_answers(out, bytes, 1, 6000)?;
             writeln!(out)?;
-            print_red_first(out, bytes, 6000, 1, 6000)?;
+            print_red_first(out, bytes, 1, 6000)?;
         }
     }
     Ok(())
@@ -357,9 +382,10 @@ fn print_differing(out: &mut impl Write, bytes: &mut [u8]) -> io::Result<()> {
         };
         lay(bytes, case);
         write!(out, "{case}, level 0")?;
-        print_answers(out, bytes, *end, 0, 6000)?;
-        print_others(out, &bytes[..bytes.len().min(*end)])?;
-        print_red_first(out, bytes, *end, 0, 6000)?;
+        let file = listing::first(bytes, *end);
+        print_answers(out, file, 0, 6000)?;
+        print_others(out, file)?;
+        print_red_first(out, file, 0, 6000)?;
     }
     Ok(())
 }
@@ -419,43 +445,27 @@ fn half(side: u32) -> u32 {
     (side / 2).max(1)
 }
 
-// What describing and decoding a level answer for the first `end` bytes of a file, and so many words.
-fn print_answers(
-    out: &mut impl Write,
-    bytes: &[u8],
-    end: usize,
-    k: usize,
-    room: usize,
-) -> io::Result<()> {
-    let file = &bytes[..end.min(bytes.len())];
+// What describing and decoding a level answer, into so many words.
+fn print_answers(out: &mut impl Write, file: &[u8], k: usize, room: usize) -> io::Result<()> {
     write!(out, ": {}", Described(levels::read_level(file, k)))?;
-    print_tried(out, bytes, end, k, room, ChannelOrder::BlueFirst)
+    print_tried(out, file, k, room, ChannelOrder::BlueFirst)
 }
 
 // A line of what decoding it red first answers.
-fn print_red_first(
-    out: &mut impl Write,
-    bytes: &[u8],
-    end: usize,
-    k: usize,
-    room: usize,
-) -> io::Result<()> {
+fn print_red_first(out: &mut impl Write, file: &[u8], k: usize, room: usize) -> io::Result<()> {
     write!(out, "  red first")?;
-    print_tried(out, bytes, end, k, room, ChannelOrder::RedFirst)?;
+    print_tried(out, file, k, room, ChannelOrder::RedFirst)?;
     writeln!(out)
 }
 
-// The numbers of both calls' refusals, 0 for none, on at most as many bytes and words as there are, and the sum over the lent words afterwards,
-// which were 0.
+// The numbers of both calls' refusals, 0 for none, on at most as many words as there are, and the sum over the lent words afterwards, which were 0.
 fn print_tried(
     out: &mut impl Write,
-    bytes: &[u8],
-    end: usize,
+    file: &[u8],
     k: usize,
     room: usize,
     order: ChannelOrder,
 ) -> io::Result<()> {
-    let file = &bytes[..end.min(bytes.len())];
     let mut image = [0; 6000];
     let words = &mut image[..room.min(6000)];
     let (end, room) = (file.len(), words.len());

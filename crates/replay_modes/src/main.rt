@@ -114,8 +114,7 @@ fn print_picture(
     data: &[u8],
     state: u64,
 ) -> io::Result<()> {
-    let need = listing::need_of(picture).min(data.len());
-    let data = &data[..need];
+    let data = listing::first(data, listing::need_of(picture));
     let case = Case {
         picture,
         data,
@@ -123,7 +122,7 @@ fn print_picture(
         state,
     };
     let short = Case {
-        data: &data[..need.saturating_sub(1)],
+        data: listing::first(data, data.len().saturating_sub(1)),
         ..case
     };
     let told = case.answer(listing::decode_told);
@@ -237,7 +236,7 @@ fn print_listed(out: &mut impl Write, data: &[u8]) -> io::Result<()> {
 
 // A listed call at both depths, in both modes and in both orders.
 fn print_call(out: &mut impl Write, call: Call, data: &[u8]) -> io::Result<()> {
-    let data = &data[..call.bytes.min(data.len())];
+    let data = listing::first(data, call.bytes);
     for is2bpp in [false, true] {
         for mode in MODES {
             for order in ORDERS {

@@ -219,10 +219,9 @@ fn print_row_calls(
 
 // A listed call's case: the first so many bytes of the data, as far as they reach.
 fn listed(data: &[u8], bytes: usize, words: usize, picture: Picture) -> Case<'_> {
-    let data = &data[..bytes.min(data.len())];
     Case {
         picture,
-        data,
+        data: listing::first(data, bytes),
         words,
         state: 2,
     }

@@ -183,6 +183,7 @@ fn end_of(fault: Fault) -> usize {
 
 // What the program answers for the first `end` bytes of a file.
 fn print_answer(out: &mut impl Write, bytes: &[u8], end: usize) -> io::Result<()> {
-    let file = &bytes[..end.min(bytes.len())];
-    replayed::with_output(file, |written| write!(out, ": {}", Output(written)))
+    replayed::with_output(listing::first(bytes, end), |written| {
+        write!(out, ": {}", Output(written))
+    })
 }

@@ -150,7 +150,7 @@ fn print_calls(out: &mut impl Write, is2bpp: bool) -> io::Result<()> {
     print_call(
         out,
         listing::blue_first(width, 8, is2bpp),
-        first(&data, 31),
+        listing::first(&data, 31),
         width,
         8,
     )?;
@@ -176,17 +176,12 @@ fn print_listed(
         print_call(
             out,
             listing::blue_first(width, *height, is2bpp),
-            first(data, *bytes),
+            listing::first(data, *bytes),
             *x,
             *y,
         )?;
     }
     Ok(())
-}
-
-// The first so many bytes, or all.
-fn first(data: &[u8], bytes: usize) -> &[u8] {
-    &data[..bytes.min(data.len())]
 }
 
 // One call, and its answer: in each order.
