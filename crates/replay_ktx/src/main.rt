@@ -246,6 +246,13 @@ fn print_header(out: &mut impl Write, file: &[u8]) -> io::Result<()> {
 // What decoding into so many words answers, of at most 131,072, which were 0.
 fn decode(file: &[u8], room: usize, order: ChannelOrder) -> Answer {
     let mut image = [0; 131072];
-    let words = &mut image[..room.min(131072)];
-    listing::answer_of(words, |words| ktx::decode_ktx(file, order, words))
+    decode_into(file, room, order, &mut image)
+}
+
+// The same, into words that are lent: where they are made, a proof would count them through.
+fn decode_into(file: &[u8], room: usize, order: ChannelOrder, image: &mut [u32]) -> Answer {
+    let room = room.min(image.len());
+    listing::answer_of(&mut image[..room], |words| {
+        ktx::decode_ktx(file, order, words)
+    })
 }

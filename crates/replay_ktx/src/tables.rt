@@ -156,6 +156,7 @@ pub static KEY_VALUES: [(u32, usize); 35] = [
 ];
 
 // Internal format, key/value bytes, width, height, size word, where the file ends, and how many words are lent.
+// A row is an array, of which `Case` is made: a struct's would stand on nine lines.
 pub static FORMAT_CASES: [[u32; 7]; 9] = [
     // each internal format
     [0x8bff, 12, 16, 8, 32, 66000, 8200],

@@ -10,6 +10,7 @@ pub const KTX: [u32; 16] = [
 
 // Width, height, the number of levels that the header says, how many bytes of metadata or key/values are skipped; the level whose size word is
 // another (99: none), and that word; the first asked level, and the one at which asking ends, 18 to 21 being large numbers.
+// A row is an array, which is taken apart by name where it is read, as tools/replay_levels does: a struct's would stand on ten lines.
 // These have all their levels, and nothing is wrong with them; a level whose blocks across or down are no power of two gets 5.
 pub static FILES: [[u32; 8]; 9] = [
     [64, 64, 7, 0, 99, 0, 0, 9],

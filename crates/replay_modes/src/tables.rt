@@ -8,8 +8,8 @@ pub const RED_CORNER: [u32; 8] = [0, 0x8000fc00, 0, 0x80008000, 0, 0x80008000, 0
 // from the others: blue is 33, green 66, red 140 and alpha 238.
 pub const ONE_COLOUR: [u32; 2] = [0, 0x80007842];
 
-// Calls for the last row and texel of a picture: how many bytes, the width and the height, with marks between them. A row is one number: a function that
-// lends many small arrays takes long to prove.
+// Calls for the last row and texel of a picture: how many bytes, the width and the height, with marks between them. A row is one number, since tools/oracle,
+// which compiles this file as Rust, takes it so.
 pub const NEEDS: [u64; 51] = [
     // one block: 8 bytes, or 32
     33_00004_00004,

@@ -82,6 +82,7 @@ pub static ROWS_2BPP: [(usize, usize); 7] = [
 const MOST: usize = 0xffffffffffffffff;
 
 // Picture calls, each with how many bytes, how many words, the width at 4bpp, the width at 2bpp, and the height.
+// A row is an array, which is taken apart by name where it is read: a struct's would stand on seven lines.
 pub static PICTURE_CALLS: [[usize; 5]; 47] = [
     // a side is 0; also where the other is too large, and where it has three blocks
     [96, 16, 0, 0, 4],

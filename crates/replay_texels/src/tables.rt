@@ -114,6 +114,7 @@ pub static KINDS: [Kind; 10] = [
 const MOST: usize = 0xffffffffffffffff;
 
 // Calls, each with how many bytes, the width at 4bpp, the width at 2bpp, the height, and the texel asked for.
+// A row is an array, which is taken apart by name where it is read: a struct's would stand on eight lines.
 pub static SIDES_AND_DATA: [[usize; 6]; 31] = [
     // a side is 0; also where a side is too large, where 3 blocks stand the other way, and where the texel lies outside
     [8, 0, 0, 4, 0, 0],
