@@ -9,12 +9,6 @@ from plates import written
 ROOT = os.path.dirname(os.path.dirname(os.path.abspath(__file__)))
 
 
-def row(marked):
-    """The numbers of a row that is written as one number, with a mark between each two."""
-    base = 16 if marked.startswith("0x") else 10
-    return [int(part, base) for part in marked.split("_")]
-
-
 def source(crate, name):
     """A source file of a crate, with no comments."""
     return re.sub(r"//[^\n]*", "", open(os.path.join(ROOT, "crates", crate, "src", name)).read())
@@ -26,7 +20,7 @@ def tables(crate):
     found = {}
     for name, body in re.findall(r"pub (?:const|static) (\w+): [^=]*= (\[.*?\]);", source(crate, "tables.rt"), re.S):
         body = re.sub(r"Fault::(\w+)", lambda fault: faults[fault.group(1)], body)
-        found[name] = eval(re.sub(r"\w+_\w+", lambda marked: str(row(marked.group())), body))
+        found[name] = eval(body)
     return found
 
 

@@ -47,12 +47,10 @@ impl fmt::Display for Same {
 }
 
 // A row of `NEEDS`: a call for the last row and texel, with as many words as there are.
-impl From<u64> for Call {
-    fn from(row: u64) -> Call {
-        let width = (row / 100000 % 100000) as usize;
-        let height = (row % 100000) as usize;
+impl From<(usize, usize, usize)> for Call {
+    fn from((bytes, width, height): (usize, usize, usize)) -> Call {
         Call {
-            bytes: (row / 10000000000) as usize,
+            bytes,
             words: 4105,
             width,
             height,

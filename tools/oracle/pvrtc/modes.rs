@@ -90,9 +90,7 @@ fn laid(numbers: &[u32]) -> Vec<u8> {
 }
 
 /// The call of a row that has the bytes, the width and the height: for the last row and texel, with as many words as there are.
-fn call_of(row: u64) -> [usize; 6] {
-    let row = row as usize;
-    let (bytes, width, height) = (row / 10000000000, row / 100000 % 100000, row % 100000);
+fn call_of((bytes, width, height): (usize, usize, usize)) -> [usize; 6] {
     let (x, y) = (width.max(1) - 1, height.max(1) - 1);
     [bytes, 4105, width, height, x, y]
 }

@@ -1,12 +1,8 @@
 -- `levels::place::level_at` meets its contract: after i steps it is at level i. The measure is how many are left. Assumes nothing.
-use Rattle.std.proofs.Common.{◌≡◌, ap, ◌∙◌, arith}
+use Rattle.std.proofs.Common.{ap, ◌∙◌, arith}
 use Rattle.levels.specs.Inner.{next_level}
-use Rattle.levels.specs.Levels.{level_at}
 use Rattle.levels.proofs.Ranges.{first-is, next-is, small_at}
 use Rattle.levels.proofs.place.level_at.Goals as goal
-
-pub first_level-level-requires : goal.first_level-level-requires
-first_level-level-requires c = c.requires.0
 
 pub loop-init : goal.loop-init
 loop-init c = (c.first_level-level.ensures ∙ first-is c.args.l, omega arith)
@@ -20,9 +16,3 @@ loop-preserved c =
     let loop = c.loop in
     let l = c.args.l in
     (c.next_level-level.ensures ∙ ap (next_level l.sized) loop.invariant.0 ∙ next-is l loop.counter, omega arith)
-
-pub returns : goal.returns
-returns c =
-    let loop = c.loop in
-    let all : loop.counter ≡ c.args.k = omega (arith, loop.invariant.1) in
-    loop.invariant.0 ∙ ap (level_at c.args.l) all

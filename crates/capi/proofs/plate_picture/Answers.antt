@@ -1,6 +1,0 @@
--- `capi::plate_picture` meets its contract, as the call over a description does. Assumes nothing.
-use Rattle.capi.proofs.Answers.{of-written}
-use Rattle.capi.proofs.plate_picture.Goals as goal
-
-pub returns : goal.returns
-returns c = of-written c.number_said.ensures (rw c.picture_of-p.ensures at c.decode_picture.ensures)
