@@ -1,4 +1,4 @@
--- How answers become numbers, and come back from them. Assumes nothing.
+-- That a call's answer in C is one, and how a texel's comes back from its number. Assumes nothing.
 use Rattle.std.proofs.Common.{◌≡◌, ℕ, ◌*◌, ◌/◌, ◌%◌, ◌<◌, cond, eqb, List, drop, Ok, Err, Result, sym, refl, ◌∙◌, arith, ne_eqb, eqb-true}
 use Rattle.facts.proofs.Lists.{choice}
 use Rattle.grid.specs.Grid.{block_address}
@@ -18,18 +18,6 @@ use Rattle.pvrtc.specs.declared.Refusal.{Refusal}
 use Rattle.capi.specs.Fields.{of_pvr, value}
 use Rattle.capi.specs.Plate.{texel_answer, Wrote, plate_field, sized_field, field_of, header_field}
 
-module _ (p : Picture) (d : List ℕ) (x y : ℕ) where
-  pub of_word : {v : ℕ} → TexelRead p d x y (Ok v) → v ≡ texel_answer p d x y
-  of_word t = omega (arith, t.number, t.value)
-
-  pub of-refusal : {f : Refusal} {n : ℕ} → TexelRead p d x y (Err f) → n ≡ number_of f → 4294967296 * n ≡ texel_answer p d x y
-  of-refusal t q = omega (arith, t.number, t.value)
-
--- a call that writes, its answer as a number
-pub of-written : {n : ℕ} {done old new : List ℕ} {r : Result (Unit {0}) Refusal} {v : ℕ} → v ≡ decoded_number r → Written n done old new r
-    → Wrote n done old new v
-of-written e w = record { number = e ∙ w.number; words = w.words }
-
 -- no two outcomes of a call that writes meet its promise
 pub one-wrote : {n r s : ℕ} {done old new new' : List ℕ} → Wrote n done old new r → Wrote n done old new' s → (r ≡ s) × (new ≡ new')
 one-wrote a b = (a.number ∙ sym b.number, a.words ∙ sym b.words)
@@ -47,28 +35,3 @@ module _ (p : Picture) (d : List ℕ) (x y : ℕ) where
 
   pub value-back : texel_answer p d x y % 4294967296 ≡ cond (eqb (refusal p (call.Texel x y) d) 0) (picture_texel p d x y) 0
   value-back = omega (arith, low)
-
--- how a header's answer becomes a field, whatever kind of file has it
-module _ {refusal v : ℕ} (value field : ℕ) where
-  pub of-refused : {n : ℕ} → n ≡ refusal → 0 < n → v ≡ cond (eqb field 0) n 0 → v ≡ field_of refusal value field
-  of-refused {n} e above q = rw (← e) (rw (ne_eqb n 0 (λ none. omega arith)) q)
-
-  -- none of an accepted header's own fields has number 0
-  pub of-accepted : refusal ≡ 0 → (field ≡ 0 → value ≡ 0) → v ≡ value → v ≡ field_of refusal value field
-  of-accepted e none-at-0 q = rw e (q ∙ choice (λ (w : ℕ). value ≡ w) (eqb field 0) (λ z. none-at-0 (eqb-true field 0 z)) (λ _. refl))
-
--- of a PVR file: without a size, field 5 is one that there is not
-no-size : (width height bits payload field : ℕ) → sized_field width height bits payload 0 field ≡ plate_field width height bits payload field
-no-size width height bits payload field =
-    choice (λ (v : ℕ). v ≡ plate_field width height bits payload field) (eqb field 5) (λ e. rw (eqb-true field 5 e) refl) (λ _. refl)
-
-module _ (file : List ℕ) (field : ℕ) where
-  pub field-of-refused : {f : HeaderRefusal} {v : ℕ} → HeaderRead file (Err f) → v ≡ cond (eqb field 0) (header.number_of f) 0
-      → v ≡ header_field file field
-  field-of-refused {f} p q = of-refused _ field p.number (number-above f) q
-
-  pub field-of-plate : {plate : Plate} {v : ℕ} → HeaderRead file (Ok plate) → v ≡ value (of_pvr plate) field → v ≡ header_field file field
-  field-of-plate p q =
-      let read = of-plate p in
-      let same = rw (read.width, read.height, read.depth, read.payload) at q in
-      of-accepted _ field read.accepted (λ z. rw z refl) (same ∙ no-size _ _ _ _ field)

@@ -1,10 +1,9 @@
 -- What an answer says, and what a list of checks says. Assumes nothing.
-use Rattle.std.proofs.Common.{◌≡◌, refl, sym, ap, ◌∙◌, ℕ, ◌<◌, List, ◌++◌, T, Ok, Err, arith}
+use Rattle.std.proofs.Common.{◌≡◌, refl, sym, ap, ◌∙◌, ℕ, ◌<◌, List, Ok, Err, arith}
 use Rattle.std.specs.Prelude.{Result}
 use Rattle.std.specs.Result.{IsErr, IsErrAnd}
 use Rattle.std.proofs.lemmas.Result.{err_from_is_err_and}
-use Rattle.facts.specs.Checks.{Check, first_of, numbered, number_said, Says}
-use Rattle.facts.proofs.Checks.{said-first, said-later}
+use Rattle.facts.specs.Checks.{Check, number_said, Says}
 
 -- what the exit of a `?` answers, where it hands the error on as it is
 pub at_exit : {A E : Type 0} {r : Result A E} {f : E} → IsErr r × IsErrAnd r (λ e. e ≡ f) → r ≡ Err f
@@ -12,15 +11,6 @@ at_exit {r = r} e = let p = err_from_is_err_and r e.1 in p.1 ∙ ap Err p.2
 
 -- where no reason to refuse has the number 0
 module _ {E : Type 0} (number : E → ℕ) (above : (f : E) → 0 < number f) where
-  module _ {A : Type 0} (l m : List Check) {r : Result A E} (t : T (numbered l)) (says : Says number r l) where
-    -- what a group of checks refuses is refused, whatever follows
-    pub stops : {f : E} → r ≡ Err f → number f ≡ first_of (l ++ m)
-    stops {f} e = said-first l m t (sym (ap (number_said number) e) ∙ says) (above f)
-
-    -- where it refuses nothing, what follows speaks
-    pub goes_on : {x : A} {n : ℕ} → r ≡ Ok x → n ≡ first_of m → n ≡ first_of (l ++ m)
-    goes_on e rest = said-later l m t (sym (ap (number_said number) e) ∙ says) rest
-
   -- where no two reasons have the same number, answers that say the same number and give the same value are the same
   module _ (one_to_one : (f g : E) → number f ≡ number g → f ≡ g) where
     pub same-answer : {A : Type 0} (value : Result A E → A) → ((x : A) → value (Ok x) ≡ x)

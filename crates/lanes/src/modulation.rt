@@ -57,7 +57,7 @@ pub trait Modulation: Copy {
     ghost half_is: { HALF ≡ half two };
 }
 
-// Whether the mode of word z is 1.
+// Whether the mode of word z is 1. Its address stands alone in the contracts: a struct of it and the bytes would be made anew for each word.
 pub fn mode_at(d: &[u8], z: usize) -> bool
     requires { 8 * z + 8 ≤ length d.now }
     ensures { result ≡ mode (word_at d.now z) }

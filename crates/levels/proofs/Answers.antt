@@ -36,18 +36,6 @@ module _ {checks : List Check} {l : Levels} where
   pub of-levels : {m : Levels} → FoundBehind checks l (Ok m) → (0 ≡ first_of checks) × (m ≡ l) × (m.start < 4294967360)
   of-levels b = (b.number, b.levels ∙ rw (← b.number) refl, b.low)
 
--- a PVR file
-module _ (file : List ℕ) where
-  pub pvr-refused : {f : PvrRefusal} → pvr.HeaderRead file (Err f) → PvrFound file (Err (Pvr f))
-  pvr-refused read = by-refusal read.number
-
-  pub pvr-found : {p : PvrPlate} {count start : ℕ} → pvr.HeaderRead file (Ok p) → count ≡ pvr.levels_field file
-      → (start ≡ pvr.payload_offset file) × (start < 4294967348)
-      → PvrFound file (Ok (record { width = p.width; height = p.height; is2bpp = p.is2bpp; count = count; start = start; sized = false }))
-  pvr-found read many place =
-      let p = pvr-header.of-plate read in
-      by-levels (sym p.accepted) (rw (p.width, p.height, p.depth, many, place.0) refl) (omega (arith, place.1))
-
 -- a KTX file
 module _ (file : List ℕ) where
   pub ktx-refused : {f : KtxRefusal} → FieldsRead file (Err f) → KtxFound file (Err (Ktx f))

@@ -13,7 +13,7 @@ use Rattle.word.specs.Word.{Small, unread, word_of}
 use Rattle.word.specs.declared.PVRTCTexelInfo.{PVRTCTexelInfo}
 use Rattle.texel.specs.Inner.{blank, nine_of, side, words_about, Place, Read}
 use Rattle.texel.specs.Needed.{address_of, word_about, word_if, needed_about, every, row_words, slid}
-use Rattle.texel.specs.Summed.{shares, FewShares}
+use Rattle.texel.specs.Summed.{shares}
 use Rattle.texel.specs.Texel.{share, texel_in, texel_at, grid_texel}
 use Rattle.texel.proofs.Nine.{small-side, low-weight}
 use Rattle.texel.proofs.Same.{HasShare, texel-same}
@@ -91,15 +91,6 @@ every-at h p zero s = omega arith
 every-at h p (suc zero) s = omega arith
 every-at h p (suc (suc zero)) s = omega arith
 every-at h p (suc (suc (suc k))) s = absurd (not-suc-le-zero {n = k} (omega (arith, s.0)))
-
-pub few-every : FewShares every
-few-every = record { few = few }
-  where
-    few : (k : ℕ) → k < 3 → get_or every k 0 ≤ 8
-    few zero l = omega arith
-    few (suc zero) l = omega arith
-    few (suc (suc zero)) l = omega arith
-    few (suc (suc (suc k))) l = absurd (not-suc-le-zero {n = k} (omega arith))
 
 -- where a texel lies in its block
 pub place : (two : Bool) (x y : ℕ) {w : ℕ} → w ≡ block_width two → Place two (x % w) (y % 4)
