@@ -7,7 +7,7 @@ use Rattle.pvrtc.specs.Calls.{refusal, BlockDecoded}
 use Rattle.pvrtc.specs.Refusals.{need, large_side, outside, size_checks, checks}
 use Rattle.pvrtc.specs.Refusals as call
 use Rattle.pvrtc.specs.declared.Call.TheVariants.{Block}
-use Rattle.pvrtc.specs.declared.Picture.{Picture as Described}
+use Rattle.pvrtc.specs.declared.Picture.{Picture}
 use Rattle.pvrtc.specs.declared.Refusal.{Refusal as CallRefusal}
 use Rattle.pvrtc.specs.Numbers.{number-above}
 use Rattle.ktx.specs.Inner.{called_as, SizedDecoded}
@@ -21,11 +21,11 @@ same_number (Ok x) = refl
 same_number (Err f) = refl
 
 -- with the size that the picture needs, it is the block call that speaks
-pub call-speaks : (p : Described) (size len room : ℕ) → size ≡ need p → first_of (sized_checks p size len room) ≡ first_of (checks p (Block room) len)
+pub call-speaks : (p : Picture) (size len room : ℕ) → size ≡ need p → first_of (sized_checks p size len room) ≡ first_of (checks p (Block room) len)
 unfolding first_of outside
 call-speaks p size len room e = simp (eq-eqb size (need p) e)
 
-module _ (p : Described) (size : ℕ) (d old : List ℕ) where
+module _ (p : Picture) (size : ℕ) (d old : List ℕ) where
   abbrev said : ℕ
   said = first_of (sized_checks p size (length d) (length old))
 
