@@ -88,7 +88,7 @@ fn print_cuts(out: &mut impl Write, bytes: &mut [u8]) -> io::Result<()> {
     lay(bytes, PLAIN);
     for end in 0..115 {
         write!(out, "cut {end}")?;
-        print_answers(out, bytes, end, 8200)?;
+        print_answers(out, listing::first(bytes, end), 8200)?;
     }
     Ok(())
 }
@@ -99,7 +99,7 @@ fn print_places(out: &mut impl Write, bytes: &mut [u8]) -> io::Result<()> {
         lay(bytes, PLAIN);
         samples::set_u32(bytes, *at, *word);
         write!(out, "place {at} has {word:08x}")?;
-        print_answers(out, bytes, 66000, 8200)?;
+        print_answers(out, bytes, 8200)?;
     }
     Ok(())
 }
@@ -109,7 +109,7 @@ fn print_turned(out: &mut impl Write, bytes: &mut [u8]) -> io::Result<()> {
     samples::lay_file(&tables::TURNED, bytes);
     samples::set_u32(bytes, 76, 0x20000000);
     write!(out, "all fields turned")?;
-    print_answers(out, bytes, 66000, 8200)
+    print_answers(out, bytes, 8200)
 }
 
 // A plain file with other key/value bytes, and where it ends.
@@ -140,7 +140,7 @@ fn print_cases(
 fn print_case(out: &mut impl Write, name: &str, case: Case, bytes: &mut [u8]) -> io::Result<()> {
     lay(bytes, case);
     write!(out, "{name} {case}")?;
-    print_answers(out, bytes, case.end, case.room)
+    print_answers(out, listing::first(bytes, case.end), case.room)
 }
 
 // Every two refusals at once. The one that is later in the order comes in first.
@@ -152,7 +152,7 @@ fn print_pairs(out: &mut impl Write, bytes: &mut [u8]) -> io::Result<()> {
             second.bring(bytes);
             first.bring(bytes);
             write!(out, "faults {first} and {second}")?;
-            print_answers(out, bytes, case.end, case.room)?;
+            print_answers(out, listing::first(bytes, case.end), case.room)?;
         }
     }
     Ok(())
@@ -217,9 +217,8 @@ fn lay(bytes: &mut [u8], case: Case) {
     }
 }
 
-// What the calls answer for the first `end` bytes of a file, and so many words.
-fn print_answers(out: &mut impl Write, bytes: &[u8], end: usize, room: usize) -> io::Result<()> {
-    let file = listing::first(bytes, end);
+// What the calls answer for a file, and so many words.
+fn print_answers(out: &mut impl Write, file: &[u8], room: usize) -> io::Result<()> {
     print_header(out, file)?;
     let blue_first = decode(file, room, ChannelOrder::BlueFirst);
     write!(out, "; picture {blue_first}; program ")?;

@@ -72,7 +72,8 @@ pub static NEEDS: [(usize, usize, usize); 51] = [
     (47, 4, 9),
 ];
 
-// Other calls, each with how many bytes, how many words, the width, the height, and the column and the row that are asked for.
+// Other calls, each with how many bytes, how many words, the width, the height, and the column and the row that are asked for. A row is an array, of
+// which `Call` is made: a struct's would stand on eight lines.
 pub const OTHERS: [[usize; 6]; 10] = [
     // the image is just long enough, or short; also where the data is short, and where there are three blocks
     [32, 16, 4, 4, 0, 0],

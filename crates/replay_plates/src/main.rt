@@ -50,7 +50,7 @@ fn print_cuts(out: &mut impl Write, bytes: &mut [u8]) -> io::Result<()> {
     samples::lay_file(&tables::PLAIN, bytes);
     for end in 0..86 {
         write!(out, "cut {end}")?;
-        print_answer(out, bytes, end)?;
+        print_answer(out, listing::first(bytes, end))?;
     }
     Ok(())
 }
@@ -61,7 +61,7 @@ fn print_places(out: &mut impl Write, bytes: &mut [u8]) -> io::Result<()> {
         samples::lay_file(&tables::PLAIN, bytes);
         samples::set_u32(bytes, *at, *word);
         write!(out, "place {at} has {word}")?;
-        print_answer(out, bytes, 40000)?;
+        print_answer(out, bytes)?;
     }
     Ok(())
 }
@@ -72,7 +72,7 @@ fn print_ends(out: &mut impl Write, bytes: &mut [u8]) -> io::Result<()> {
         samples::lay_file(&tables::PLAIN, bytes);
         samples::set_u32(bytes, 48, *metadata);
         write!(out, "metadata {metadata}, cut {end}")?;
-        print_answer(out, bytes, *end)?;
+        print_answer(out, listing::first(bytes, *end))?;
     }
     Ok(())
 }
@@ -82,7 +82,7 @@ fn print_sizes(out: &mut impl Write, bytes: &mut [u8]) -> io::Result<()> {
     for (format, width, height) in &tables::SIZES {
         lay_sized(bytes, *format, *width, *height);
         write!(out, "format {format}, size {width} x {height}")?;
-        print_answer(out, bytes, 40000)?;
+        print_answer(out, bytes)?;
     }
     Ok(())
 }
@@ -92,7 +92,7 @@ fn print_tiny(out: &mut impl Write, bytes: &mut [u8]) -> io::Result<()> {
     for (format, width, height, end) in &tables::TINY {
         lay_sized(bytes, *format, *width, *height);
         write!(out, "end {end}, format {format}, size {width} x {height}")?;
-        print_answer(out, bytes, *end)?;
+        print_answer(out, listing::first(bytes, *end))?;
     }
     Ok(())
 }
@@ -117,7 +117,10 @@ fn print_pairs(out: &mut impl Write, bytes: &mut [u8]) -> io::Result<()> {
             bring(bytes, *second);
             bring(bytes, *first);
             write!(out, "faults {first} and {second}")?;
-            print_answer(out, bytes, end_of(*first).min(end_of(*second)))?;
+            print_answer(
+                out,
+                listing::first(bytes, end_of(*first).min(end_of(*second))),
+            )?;
         }
     }
     Ok(())
@@ -134,7 +137,7 @@ fn print_fields(out: &mut impl Write, bytes: &mut [u8]) -> io::Result<()> {
                 write!(out, " {fault}")?;
             }
         }
-        print_answer(out, bytes, 40000)?;
+        print_answer(out, bytes)?;
     }
     Ok(())
 }
@@ -153,7 +156,7 @@ fn print_flags(out: &mut impl Write, bytes: &mut [u8]) -> io::Result<()> {
                 bring(bytes, *fault);
                 write!(out, " {fault}")?;
             }
-            print_answer(out, bytes, 40000)?;
+            print_answer(out, bytes)?;
         }
     }
     Ok(())
@@ -181,9 +184,7 @@ fn end_of(fault: Fault) -> usize {
     }
 }
 
-// What the program answers for the first `end` bytes of a file.
-fn print_answer(out: &mut impl Write, bytes: &[u8], end: usize) -> io::Result<()> {
-    replayed::with_output(listing::first(bytes, end), |written| {
-        write!(out, ": {}", Output(written))
-    })
+// What the program answers for a file.
+fn print_answer(out: &mut impl Write, file: &[u8]) -> io::Result<()> {
+    replayed::with_output(file, |written| write!(out, ": {}", Output(written)))
 }
