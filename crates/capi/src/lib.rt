@@ -66,7 +66,7 @@ impl From<Level> for Fields {
 }
 
 impl Fields {
-    // The field of a number; 0 where there is none.
+    // The field of a number, which is C's; 0 where there is none.
     fn value(self, field: u32) -> u64
         ensures { result ≡ value self field }
     {

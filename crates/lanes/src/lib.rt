@@ -95,8 +95,7 @@ pub struct FillRule {
     pub upright: u64,
 }
 
-// Row `by` of a grid's blocks, at either depth, laid on its sheet. With `by` its sheet changes from call to call, and the image is lent: a struct of
-// what is left, the bytes, the grid and the order, would be made for this call alone.
+// Row `by` of a grid's blocks, at either depth, laid on its sheet.
 pub fn decode_block_row(
     data: &[u8],
     g: Grid,

@@ -7,7 +7,7 @@ ghost use Rattle.lanes.specs.BlockRow.{addresses_of};
 use crate::RowAddresses;
 use grid::Grid;
 
-// The eight bits of b, bit i moved to bit 2i.
+// The eight bits of b, bit i moved to bit 2i. `grid` has this by its table: docs/DECISIONS.md, "What the fast path replaces", says why not here.
 fn spread_byte(b: usize) -> usize
     requires { b < 256 }
     ensures { result ≡ spread_bits 8 b }

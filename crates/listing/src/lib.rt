@@ -194,7 +194,7 @@ pub fn decode_named(data: &[u8], p: Picture, image: &mut [u32]) -> Result<(), Re
     }
 }
 
-// The plain form, as a function that can be passed on by its name.
+// The plain form, as a function that can be passed on by its name: of one that `pub use` passes on from a private module the check finds no contract.
 pub fn decode_plain(data: &[u8], p: Picture, image: &mut [u32]) -> Result<(), Refusal>
     ensures { BlockDecoded p «data».now image.old image.new result }
 {

@@ -28,7 +28,7 @@ impl fmt::Display for Failure {
     }
 }
 
-// What an answer of std's `read` means: so many bytes, or at 0 that the input has ended.
+// What an answer of std's `read` means: so many bytes, or at 0 that the input has ended. It is no `From`, since docs/PROGRAM.md names its definition.
 fn meaning(got: io::Result<usize>) -> Result<Option<usize>, Failure>
     ensures { result ≡ meant got }
 {

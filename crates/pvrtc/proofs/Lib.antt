@@ -1,5 +1,6 @@
 pub mod Accepted
 pub mod Agree
+pub mod Groups
 pub mod InPicture
 pub mod InRow
 pub mod Modes

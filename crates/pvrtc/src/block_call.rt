@@ -36,7 +36,7 @@ pub fn decode_pvrtc(
     decode_picture(data, picture_of(width, height, is2bpp, mode, order), image)
 }
 
-// The depth in the name: the Rust has these two, and the README names them.
+// The depth in the name: the Rust has these two, and docs/PROMISES.md says what either promises.
 pub fn decode_pvrtc_2bpp(
     data: &[u8],
     width: usize,
