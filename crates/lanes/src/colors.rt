@@ -128,7 +128,7 @@ fn downwards(above: u64, own: u64, below: u64) -> [u64; 4]
     ]
 }
 
-// A column's three words, summed.
+// A column's three words, summed. A struct of the bytes and the addresses, of which `InData` speaks, would be made anew for each column.
 pub fn summed(d: &[u8], at: Addresses, order: ChannelOrder) -> Column
     requires { InData at (length d.now) }
     ensures { (result ≡ column_of order d.now at.above at.own at.below) × SmallColumn result }
