@@ -40,16 +40,16 @@ fn bytes_at<const N: usize>(file: &[u8], at: usize) -> [u8; N]
     bytes
 }
 
-// The four bytes from place `at` on, little-endian.
-#[inline]
+// The four bytes from place `at` on, little-endian. Inside a caller that knows the file's length this is one load.
+#[inline(always)]
 pub fn u32_at(file: &[u8], at: usize) -> u32
     ensures { (result ≡ u32_at file.now at) × (result < 4294967296) }
 {
     u32::from_le_bytes(bytes_at(file, at))
 }
 
-// The eight bytes from place `at` on, little-endian.
-#[inline]
+// The eight bytes from place `at` on, little-endian; one load too.
+#[inline(always)]
 pub fn u64_at(file: &[u8], at: usize) -> u64
     ensures { result ≡ u64_at file.now at }
 {
