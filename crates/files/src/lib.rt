@@ -28,7 +28,8 @@ pub fn starts_with(file: &[u8], bytes: &[u8]) -> bool
     file.starts_with(bytes)
 }
 
-// The N bytes from place `at` on; past the file's end, 0.
+// The N bytes from place `at` on; past the file's end, 0. Inside a caller that knows the file's length this is one load.
+#[inline(always)]
 fn bytes_at<const N: usize>(file: &[u8], at: usize) -> [u8; N]
     ensures { (k : ℕ) → k < N → get_or result k 0 ≡ get_or file.now (at + k) 0 }
 {
@@ -40,7 +41,7 @@ fn bytes_at<const N: usize>(file: &[u8], at: usize) -> [u8; N]
     bytes
 }
 
-// The four bytes from place `at` on, little-endian. Inside a caller that knows the file's length this is one load.
+// The four bytes from place `at` on, little-endian.
 #[inline(always)]
 pub fn u32_at(file: &[u8], at: usize) -> u32
     ensures { (result ≡ u32_at file.now at) × (result < 4294967296) }
@@ -48,7 +49,7 @@ pub fn u32_at(file: &[u8], at: usize) -> u32
     u32::from_le_bytes(bytes_at(file, at))
 }
 
-// The eight bytes from place `at` on, little-endian; one load too.
+// The eight bytes from place `at` on, little-endian.
 #[inline(always)]
 pub fn u64_at(file: &[u8], at: usize) -> u64
     ensures { result ≡ u64_at file.now at }
