@@ -1,10 +1,11 @@
--- No refusal has the number 0, and no two have the same. Assumes nothing.
-use Rattle.std.specs.Prelude.{◌≡◌, cond, ℕ, ◌<◌, eqb, ltb, refl}
-use Rattle.std.proofs.Common.{sym, ap, ◌∙◌, ltb→lt}
+-- No refusal has the number 0, and no two have the same. A reader's refusals are not listed: which numbers are its own, it says itself, and that these
+-- are none of the program's or of the other reader's is computed. Assumes nothing.
+use Rattle.std.specs.Prelude.{◌≡◌, Bool, true, false, cond, ℕ, ◌<◌, eqb, refl}
+use Rattle.std.proofs.Common.{sym, ap, ◌∙◌, ltb→lt, ne_eqb, true≢false, arith}
+use Rattle.pvr.specs.Header as pvr-spec
 use Rattle.pvr.specs.Numbers as pvr
-use Rattle.pvr.specs.declared.HeaderRefusal.TheVariants as pvr-reason
+use Rattle.ktx.specs.Header as ktx-spec
 use Rattle.ktx.specs.Numbers as ktx
-use Rattle.ktx.specs.declared.HeaderRefusal.TheVariants as ktx-reason
 use Rattle.pvrtc.specs.Numbers as call
 use Rattle.pvrtc.specs.declared.Refusal.TheVariants as call-reason
 use Rattle.convert.specs.declared.Refusal.{Refusal}
@@ -20,32 +21,35 @@ number-above LargeNeed = ltb→lt 0 23 tt
 number-above OtherSize = ltb→lt 0 36 tt
 number-above (Picture f) = call.number-above f
 
--- the refusal of a number
+-- the refusal of a number: the program's own, a reader's, or else the block call's
 from_number : ℕ → Refusal
 from_number n =
-    cond (ltb n 7) (Picture (call.from_number n))
-    (cond (ltb n 19) (Pvr (pvr.from_number n))
-    (cond (eqb n 21) LongSkipped
+    cond (eqb n 21) LongSkipped
     (cond (eqb n 22) LongSide
     (cond (eqb n 23) LargeNeed
-    (cond (eqb n 36) OtherSize (Ktx (ktx.from_number n)))))))
+    (cond (eqb n 36) OtherSize
+    (cond (pvr.is_header_number n) (Pvr (pvr.from_number n)) (cond (ktx.is_header_number n) (Ktx (ktx.from_number n)) (Picture (call.from_number n)))))))
+
+-- a number of some kind is none that is not of this kind
+not-at : (kind : ℕ → Bool) (n m : ℕ) → kind n ≡ true → kind m ≡ false → eqb n m ≡ false
+not-at kind n m e other = ne_eqb n m (λ same. true≢false (sym e ∙ ap kind same ∙ other))
+
+-- no number is of both readers
+one-reader : (n : ℕ) → ktx.is_header_number n ≡ true → pvr.is_header_number n ≡ false
+one-reader n e = grind arith
 
 back : (f : Refusal) → from_number (number_of f) ≡ f
 unfolding from_number
-back (Pvr pvr-reason.ShortHeader) = ap Pvr (pvr.back pvr-reason.ShortHeader)
-back (Pvr pvr-reason.NotPvr) = ap Pvr (pvr.back pvr-reason.NotPvr)
-back (Pvr pvr-reason.UnknownFlags) = ap Pvr (pvr.back pvr-reason.UnknownFlags)
-back (Pvr pvr-reason.UnknownFormat) = ap Pvr (pvr.back pvr-reason.UnknownFormat)
-back (Pvr pvr-reason.DepthNotOne) = ap Pvr (pvr.back pvr-reason.DepthNotOne)
-back (Pvr pvr-reason.SurfacesNotOne) = ap Pvr (pvr.back pvr-reason.SurfacesNotOne)
-back (Pvr pvr-reason.FacesNotOne) = ap Pvr (pvr.back pvr-reason.FacesNotOne)
-back (Pvr pvr-reason.NoLevel) = ap Pvr (pvr.back pvr-reason.NoLevel)
-back (Ktx ktx-reason.ShortHeader) = ap Ktx (ktx.back ktx-reason.ShortHeader)
-back (Ktx ktx-reason.NotKtx) = ap Ktx (ktx.back ktx-reason.NotKtx)
-back (Ktx ktx-reason.OtherByteOrder) = ap Ktx (ktx.back ktx-reason.OtherByteOrder)
-back (Ktx ktx-reason.UnknownFormat) = ap Ktx (ktx.back ktx-reason.UnknownFormat)
-back (Ktx ktx-reason.NotOnePlate) = ap Ktx (ktx.back ktx-reason.NotOnePlate)
-back (Ktx ktx-reason.CutShort) = ap Ktx (ktx.back ktx-reason.CutShort)
+back (Pvr f) =
+    let n : ℕ = pvr-spec.number_of f in
+    let kind = pvr.is_header_number in
+    let e = pvr.header-number f in
+    rw (e, not-at kind n 21 e refl, not-at kind n 22 e refl, not-at kind n 23 e refl, not-at kind n 36 e refl) (ap Pvr (pvr.back f))
+back (Ktx f) =
+    let n : ℕ = ktx-spec.number_of f in
+    let kind = ktx.is_header_number in
+    let e = ktx.header-number f in
+    rw (e, one-reader n e, not-at kind n 21 e refl, not-at kind n 22 e refl, not-at kind n 23 e refl, not-at kind n 36 e refl) (ap Ktx (ktx.back f))
 back LongSkipped = refl
 back LongSide = refl
 back LargeNeed = refl

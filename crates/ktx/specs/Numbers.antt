@@ -1,5 +1,5 @@
--- No refusal has the number 0, and no two have the same. Assumes nothing.
-use Rattle.std.specs.Prelude.{◌≡◌, cond, ℕ, ◌<◌, eqb, ltb, refl}
+-- No refusal has the number 0, and no two have the same; and which numbers a header's are, for those above that have numbers of their own. Assumes nothing.
+use Rattle.std.specs.Prelude.{◌≡◌, Bool, true, cond, not, ◌&&◌, ℕ, ◌<◌, eqb, ltb, refl}
 use Rattle.std.proofs.Common.{sym, ap, ◌∙◌, ltb→lt}
 use Rattle.pvrtc.specs.Numbers as call
 use Rattle.pvrtc.specs.declared.Refusal.TheVariants.{ZeroSide, LargeSide, ShortData, ShortImage, NotPowerOfTwo, Outside}
@@ -32,6 +32,18 @@ back OtherByteOrder = refl
 back UnknownFormat = refl
 back NotOnePlate = refl
 back CutShort = refl
+
+-- the numbers of a header's refusals are among these
+abbrev pub is_header_number : ℕ → Bool
+is_header_number n = ltb 30 n && ltb n 38 && not (eqb n 36)
+
+pub header-number : (f : HeaderRefusal) → is_header_number (number_of f) ≡ true
+header-number ShortHeader = refl
+header-number NotKtx = refl
+header-number OtherByteOrder = refl
+header-number UnknownFormat = refl
+header-number NotOnePlate = refl
+header-number CutShort = refl
 
 pub same-refusal : (f g : HeaderRefusal) → number_of f ≡ number_of g → f ≡ g
 same-refusal f g e = sym (back f) ∙ ap from_number e ∙ back g

@@ -55,6 +55,7 @@ fn is_unknown_format(file: &[u8]) -> bool
 }
 
 // Whether a field says that the file holds something else than one plate: the depth at 44, array elements at 48, faces at 52.
+#[inline(always)]
 fn is_not_one_plate(file: &[u8]) -> bool
     ensures { result ≡ not_one_plate file.now }
 {
@@ -86,6 +87,7 @@ pub fn level_count(file: &[u8]) -> u32
 }
 
 // Where the key/value bytes end; how many these are stands at 60. A size word follows.
+#[inline(always)]
 pub fn size_place(file: &[u8]) -> usize
     ensures { (result ≡ size_place file.now) × (result < 4294967360) }
 {
@@ -130,12 +132,13 @@ pub fn read_header(file: &[u8]) -> Result<Plate, HeaderRefusal>
 {
     let stored = read_fields(file)?;
     refuse_if(stored.cut, HeaderRefusal::CutShort)?;
+    // The size word is the one that was read with the fields: a KTX file always says a size.
     Ok(Plate {
         width: stored.width,
         height: stored.height,
         is2bpp: stored.is2bpp,
         payload: stored.payload,
-        size: size_word(file),
+        size: stored.size.unwrap_or(0),
     })
 }
 

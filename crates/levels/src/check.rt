@@ -46,10 +46,10 @@ pub fn check_size_word(file: &[u8], level: Level) -> Result<(), Refusal>
     requires { 4 ≤ level.start }
     ensures { Says result (word_checks file.now level) }
 {
-    let word = files::u32_at(file, level.start - 4) as usize;
     refuse_if(
         file.len() < level.start,
         Refusal::Ktx(ktx::HeaderRefusal::CutShort),
     )?;
+    let word = files::u32_at(file, level.start - 4) as usize;
     refuse_if(word != level.need, Refusal::OtherSize)
 }

@@ -1,5 +1,5 @@
--- No refusal has the number 0, and no two have the same. Assumes nothing.
-use Rattle.std.specs.Prelude.{◌≡◌, cond, ℕ, ◌<◌, eqb, refl}
+-- No refusal has the number 0, and no two have the same; and which numbers theirs are, for those above that have numbers of their own. Assumes nothing.
+use Rattle.std.specs.Prelude.{◌≡◌, Bool, true, cond, ◌&&◌, ℕ, ◌<◌, eqb, ltb, refl}
 use Rattle.std.proofs.Common.{sym, ap, ◌∙◌, ltb→lt}
 use Rattle.pvr.specs.declared.HeaderRefusal.{HeaderRefusal}
 use Rattle.pvr.specs.declared.HeaderRefusal.TheVariants.{ShortHeader, NotPvr, UnknownFlags, UnknownFormat}
@@ -35,6 +35,20 @@ back DepthNotOne = refl
 back SurfacesNotOne = refl
 back FacesNotOne = refl
 back NoLevel = refl
+
+-- The numbers of a header's refusals are among these.
+abbrev pub is_header_number : ℕ → Bool
+is_header_number n = ltb 10 n && ltb n 19
+
+pub header-number : (f : HeaderRefusal) → is_header_number (number_of f) ≡ true
+header-number ShortHeader = refl
+header-number NotPvr = refl
+header-number UnknownFlags = refl
+header-number UnknownFormat = refl
+header-number DepthNotOne = refl
+header-number SurfacesNotOne = refl
+header-number FacesNotOne = refl
+header-number NoLevel = refl
 
 pub same-refusal : (f g : HeaderRefusal) → number_of f ≡ number_of g → f ≡ g
 same-refusal f g e = sym (back f) ∙ ap from_number e ∙ back g

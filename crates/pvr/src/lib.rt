@@ -84,6 +84,7 @@ pub fn level_count(file: &[u8]) -> u32
 }
 
 // Where the first level starts: behind the metadata, whose size stands at 48.
+#[inline(always)]
 pub fn payload_offset(file: &[u8]) -> usize
     ensures { (result ≡ payload_offset file.now) × (result < 4294967348) }
 {

@@ -5,6 +5,7 @@
 
 mod tables;
 
+use convert::{IMAGE_WORDS, OUT_BYTES};
 use facts::Numbered;
 use levels::{Level, Refusal};
 use listing::Depth;
@@ -480,6 +481,13 @@ fn print_others(out: &mut impl Write, file: &[u8]) -> io::Result<()> {
         Ok(plate) => write!(out, "; header {} x {}", plate.width, plate.height)?,
         Err(f) => write!(out, "; header refused {}", f.number())?,
     }
-    let count = replayed::with_output(file, |written| written.len());
+    let mut image = [0; IMAGE_WORDS];
+    let mut room = [0; OUT_BYTES];
+    let count = write_program(file, &mut image, &mut room);
     writeln!(out, "; program writes {count}")
+}
+
+// The program's call for C, into arrays that are lent whole: where they are made, a proof would count them through.
+fn write_program(file: &[u8], image: &mut [u32; IMAGE_WORDS], out: &mut [u8; OUT_BYTES]) -> usize {
+    convert::plate_convert(file, image, out)
 }

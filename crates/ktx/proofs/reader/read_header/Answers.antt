@@ -1,5 +1,5 @@
 -- `ktx::reader::read_header` meets its contract. Assumes nothing.
-use Rattle.std.proofs.Common.{sym, ap}
+use Rattle.std.proofs.Common.{sym, ap, ◌∙◌, unwrap_or}
 use Rattle.facts.proofs.Said.{at_exit}
 use Rattle.files.specs.declared.Stored.{Stored}
 use Rattle.ktx.proofs.Answers.{by-refusal, by-plate, by-fields, by-cut, is-plate}
@@ -25,5 +25,5 @@ returns c =
       height = ap (λ (s : Stored). s.height) is;
       depth = ap (λ (s : Stored). s.is2bpp) is;
       payload = ap (λ (s : Stored). s.payload) is;
-      said = c.size_word.ensures.0;
+      said = c.unwrap_or.ensures ∙ ap (λ (s : Stored). unwrap_or s.size 0) is;
     })

@@ -112,14 +112,14 @@ known_texel-requires c =
     held-picture c.args.p c.args.«data».now c.args.y c.loop-x.x c.grid_of-g.ensures
     (held at.Joined-x-width-eq0 (block at.In_ok-check c.grid_of-g.ensures c.loop-x-test.true).across)
 
--- no texel of the row is refused
-pub returns-in_err-word : goal.returns-in_err-word
-returns-in_err-word c =
+-- no texel of the row is refused: the branch is not reached
+pub returns-in_default : goal.returns-in_default
+returns-in_default c =
     let a = c.args in
-    let k = (goal.at.returns-in_err-word c).In_ok-check in
+    let k = (goal.at.returns-in_default c).In_ok-check in
     absurd
     (not-refused a.p a.«data».now c.loop-x.x a.y (length a.row.now) (ok_of k) (column k c.loop-x-test.true)
-    c.known_texel.ensures c.in_err-word.was)
+    c.known_texel.ensures c.in_default.is)
 
 pub loop-x-preserved : goal.loop-x-preserved
 loop-x-preserved c =
@@ -127,7 +127,7 @@ loop-x-preserved c =
     let k = at.In_ok-check in
     let a = c.args in
     let d = a.«data».now in
-    let its = its-word a.p d c.loop-x.x a.y (length a.row.now) (ok_of k) (column k c.loop-x-test.true) c.known_texel.ensures c.in_ok-word.was in
+    let its = its-word a.p d c.loop-x.x a.y (length a.row.now) (ok_of k) (column k c.loop-x-test.true) c.known_texel.ensures c.in-Ok.is in
     let slid = held at.Joined-x-width-eq0 (block k c.grid_of-g.ensures c.loop-x-test.true).across in
     (filled_more c.loop-x.invariant.0 its c.loop-x-test.true, held_next a.p.order c.grid_of-g.result d a.y c.loop-x.x slid)
 
