@@ -1,6 +1,7 @@
 -- Laws of sample files and of checksums. Assumes nothing.
 use Rattle.std.proofs.Common.{◌≡◌, ℕ, zero, suc, ◌+◌, ◌*◌, ◌%◌, ◌≤◌, List, [], ◌∷◌, length, get_or, set, sym, refl, ap, ◌∙◌, le_of_suc-le-suc}
-use Rattle.std.proofs.Common.{not-suc-le-zero, add-one, arith}
+use Rattle.std.proofs.Common.{not-suc-le-zero, add-one, arith, ◌/◌}
+use native.Mathlib.Nat.{add-mul-mod_self_right}
 use Rattle.files.specs.Fields.{byte_of}
 use Rattle.samples.specs.File.{with_u32}
 use Rattle.samples.specs.Sums.{checksum}
@@ -10,6 +11,11 @@ pub set_past : (l : List ℕ) (i v : ℕ) → length l ≤ i → set l i v ≡ l
 set_past [] i v h = refl
 set_past (a ∷ l) zero v h = absurd (not-suc-le-zero h)
 set_past (a ∷ l) (suc i) v h = ap (λ (t : List ℕ). a ∷ t) (set_past l i v (le_of_suc-le-suc h))
+
+-- the byte that tells its place, found from what is left of the place, so that no product is too large
+pub place_byte : (k : ℕ) → (37 * (k % 251) + 11) % 251 ≡ (37 * k + 11) % 251
+place_byte k =
+    sym (add-mul-mod_self_right (37 * (k % 251) + 11) (37 * (k / 251)) 251) ∙ ap (λ (n : ℕ). n % 251) (omega arith)
 
 -- the checksum with one number more
 pub sum_more : (times prime : ℕ) (l : List ℕ) (n : ℕ) {s : ℕ} → s ≡ checksum times prime l n
