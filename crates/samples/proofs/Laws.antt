@@ -1,7 +1,6 @@
 -- Laws of sample files and of checksums. Assumes nothing.
 use Rattle.std.proofs.Common.{◌≡◌, ℕ, zero, suc, ◌+◌, ◌*◌, ◌%◌, ◌≤◌, List, [], ◌∷◌, length, get_or, set, sym, refl, ap, ◌∙◌, le_of_suc-le-suc}
-use Rattle.std.proofs.Common.{not-suc-le-zero, add-one, arith, ◌/◌}
-use native.Mathlib.Nat.{add-mul-mod_self_right}
+use Rattle.std.proofs.Common.{not-suc-le-zero, add-one, arith}
 use Rattle.files.specs.Fields.{byte_of}
 use Rattle.samples.specs.File.{with_u32}
 use Rattle.samples.specs.Sums.{checksum}
@@ -14,8 +13,7 @@ set_past (a ∷ l) (suc i) v h = ap (λ (t : List ℕ). a ∷ t) (set_past l i v
 
 -- the byte that tells its place, found from what is left of the place, so that no product is too large
 pub place_byte : (k : ℕ) → (37 * (k % 251) + 11) % 251 ≡ (37 * k + 11) % 251
-place_byte k =
-    sym (add-mul-mod_self_right (37 * (k % 251) + 11) (37 * (k / 251)) 251) ∙ ap (λ (n : ℕ). n % 251) (omega arith)
+place_byte k = omega arith
 
 -- the checksum with one number more
 pub sum_more : (times prime : ℕ) (l : List ℕ) (n : ℕ) {s : ℕ} → s ≡ checksum times prime l n
