@@ -35,3 +35,12 @@ module _ (p : Picture) (d : List ℕ) (x y : ℕ) where
 
   pub value-back : texel_answer p d x y % 4294967296 ≡ cond (eqb (refusal p (call.Texel x y) d) 0) (picture_texel p d x y) 0
   value-back = omega (arith, low)
+
+-- how a header's answer becomes a field, whatever kind of file has it
+module _ {refusal v : ℕ} (value field : ℕ) where
+  pub of-refused : {n : ℕ} → n ≡ refusal → 0 < n → v ≡ cond (eqb field 0) n 0 → v ≡ field_of refusal value field
+  of-refused {n} e above q = rw (← e) (rw (ne_eqb n 0 (λ none. omega arith)) q)
+
+  -- none of an accepted header's own fields has number 0
+  pub of-accepted : refusal ≡ 0 → (field ≡ 0 → value ≡ 0) → v ≡ value → v ≡ field_of refusal value field
+  of-accepted e none-at-0 q = rw e (q ∙ choice (λ (w : ℕ). value ≡ w) (eqb field 0) (λ z. none-at-0 (eqb-true field 0 z)) (λ _. refl))

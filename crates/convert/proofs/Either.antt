@@ -1,14 +1,15 @@
 -- What a file says, by the kind that it is taken for. Assumes nothing.
-use Rattle.std.proofs.Common.{◌≡◌, ℕ, ◌+◌, ◌≤◌, Bool, true, false, cond, T, List, ◌++◌, length, refl, arith}
+use Rattle.std.proofs.Common.{◌≡◌, ℕ, ◌+◌, ◌≤◌, Bool, true, false, cond, T, List, ◌++◌, length, refl, arith, ◌<◌}
 use Rattle.facts.specs.Checks.{numbered}
 use Rattle.files.specs.Reading.{Says}
 use Rattle.files.proofs.Starts.{start-before}
+use Rattle.files.proofs.Answers.{said-below, numbers_below}
 use Rattle.pvr.specs.Header as pvr
 use Rattle.pvr.specs.Reading.{pvr_says}
 use Rattle.ktx.specs.Header as ktx
 use Rattle.ktx.specs.Header.{ktx_bytes, is_ktx}
 use Rattle.ktx.specs.Reading.{ktx_says}
-use Rattle.convert.specs.Output.{says_of, stored_in}
+use Rattle.convert.specs.Output.{says_of, stored_in, header_refusal}
 
 -- it is KTX's reader that speaks, or PVR's
 pub as-ktx : (file : List ℕ) → is_ktx file ≡ true → says_of file ≡ ktx_says file
@@ -46,6 +47,10 @@ payload-near file = either (λ s. s.plate.payload ≤ ktx.header_size + 4 + s.pl
 pub payload-behind : (file : List ℕ) → pvr.header_size ≤ (stored_in file).payload
 payload-behind file = either (λ s. pvr.header_size ≤ s.plate.payload) file (omega arith) (omega arith)
 
--- every number is above 0
+-- every number is above 0, and below 100
 pub all-numbered : (file : List ℕ) → T (numbered (says_of file).refusals)
 all-numbered file = either (λ s. T (numbered s.refusals)) file tt tt
+
+pub header-small : (file : List ℕ) → header_refusal file < 100
+header-small file =
+    said-below 100 (says_of file).refusals (either (λ s. T (numbers_below 100 s.refusals)) file tt tt) (omega arith)

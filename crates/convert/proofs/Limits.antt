@@ -14,6 +14,10 @@ use Rattle.convert.specs.Inner.{TgaFits}
 use Rattle.files.specs.declared.Stored.{Stored}
 use Rattle.convert.specs.Output.{picture_of, need_limit, long_skipped, long_side, large_need, other_size, limit_checks, payload_checks, own_checks, Room}
 
+-- a number that is not above 0 is 0
+pub says_none : {n m : ℕ} → n ≡ m → n ≤ 0 → m ≡ 0
+says_none e h = omega arith
+
 -- nothing is refused before the data
 pub record Kept (s : Stored) : Type 0 where
   pub skipped : long_skipped s ≡ false

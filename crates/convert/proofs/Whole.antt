@@ -1,9 +1,11 @@
 -- From a reader's answer to what is written for the whole file. Assumes nothing.
-use Rattle.std.proofs.Common.{◌≡◌, ℕ, ◌/◌, ◌%◌, ◌≤◌, false, cond, eqb, List, length, get_or, Ok, Err, Result, sym, refl, ap, ◌∙◌, arith, ne_eqb}
+use Rattle.std.proofs.Common.{◌≡◌, ℕ, ◌/◌, ◌%◌, ◌≤◌, false, cond, eqb, List, length, get_or, Ok, Err, Result, sym, refl, ap, ◌∙◌, arith, ne_eqb, ◌-◌, ◌<◌, min}
+use Rattle.std.proofs.Common.{take, drop}
 use Rattle.facts.specs.Checks.{first_of}
 use Rattle.files.specs.Reading.{Says, Shown}
 use Rattle.files.specs.declared.Stored.{Stored}
 use Rattle.files.proofs.Answers as reader
+use Rattle.files.proofs.Fields.{data_is}
 use Rattle.paint.specs.Sheet.{on_sheet}
 use Rattle.pvrtc.specs.declared.Call.TheVariants as call
 use Rattle.pvrtc.specs.declared.Picture.{Picture}
@@ -17,8 +19,9 @@ use Rattle.convert.specs.declared.Refusal.TheVariants as reason
 use Rattle.convert.specs.Inner.{number_of, FileDecoded, Laid, TgaFits}
 use Rattle.convert.specs.Numbers.{number-above}
 use Rattle.convert.specs.Output.{says_of, stored_in, picture_of, plate_of, level_data, limit_checks, payload_checks, own_checks, program_refusal}
-use Rattle.convert.specs.Output.{refused_line, tga_of, written, Answered, Converted, Room}
+use Rattle.convert.specs.Output.{refused_line, tga_of, written, Answered, Converted, Room, header_refusal}
 use Rattle.convert.proofs.Answers.{written-line, written-tga, tga-same}
+use Rattle.convert.proofs.Either.{header-small}
 use Rattle.convert.proofs.Limits.{kept, own-number, own_same, few_words, call-says, tga-fits}
 use Rattle.convert.proofs.Said.{header-first, none-early, none_said}
 
@@ -84,6 +87,32 @@ module _ (file image : List ℕ) where
 
       pub by-picture : decoded ≡ Ok tt → FileDecoded file image image' (Ok s)
       by-picture e = record { number = sym (ap decoded_number e) ∙ said; plate = a.plate; words = words }
+
+-- a header's number, as a reader says it, is below 100
+pub number_small : (file : List ℕ) {E : Type 0} {number : E → ℕ} {f : E} → Shown number (says_of file) (Err f) → number f < 100
+number_small file {number = number} {f} a =
+    let said : number f ≡ header_refusal file = a.refusal in
+    omega (arith, header-small file, said)
+
+-- the header is accepted: what is said of its plate is said of the file
+module _ (file : List ℕ) {E : Type 0} {number : E → ℕ} {s : Stored} (a : Shown number (says_of file) (Ok s)) where
+  pub by-plate : {image image' out out' : List ℕ} {start r : ℕ} → start ≡ min s.payload (length file)
+      → Answered (first_of (own_checks s (length (take (length file - start) (drop start file))))) (picture_of s)
+      (take (length file - start) (drop start file)) image image' out out' r
+      → Converted file image image' out out' r
+  by-plate {start = start} q b = answered-same own-is (ap picture_of same-plate) same-data b
+    where
+      accepted : header_refusal file ≡ 0
+      accepted = (reader.of-plate a).0
+
+      same-plate : s ≡ stored_in file
+      same-plate = (reader.of-plate a).1
+
+      same-data : take (length file - start) (drop start file) ≡ level_data file
+      same-data = data_is file start s.payload q ∙ ap (λ (t : Stored). drop t.payload file) same-plate
+
+      own-is : first_of (own_checks s (length (take (length file - start) (drop start file)))) ≡ program_refusal file
+      own-is = own_same same-plate (ap length same-data) ∙ sym (header-first file ∙ rw accepted)
 
 -- what is written: the line of the first refusal
 pub by-line : {file image image' out out' : List ℕ} {f : Refusal} {n r : ℕ} → FileDecoded file image image' (Err f) → n ≡ number_of f

@@ -2,7 +2,7 @@
 -- Assumes nothing.
 use Rattle.std.proofs.Common.{◌≡◌, refl, sym, ap, subst, ◌∙◌, List, [], ◌∷◌, ◌++◌, append_assoc, append-nil, ⊎_elim, ℕ, zero, suc, ◌+◌, ◌≤◌, ◌<◌, le_of_eq}
 use Rattle.std.proofs.Common.{not-suc-le-zero, le_of_suc-le-suc, eq-or-lt_of_le, add-one, arith, length, get_or, set, drop, length-append, length-drop}
-use Rattle.std.proofs.Common.{drop_of_length-le, drop-cons}
+use Rattle.std.proofs.Common.{drop_of_length-le, drop-cons, ext_get_or}
 use lib.ListN.{get_or-append}
 use lib.Seq.{set_at, get_or-append_seam}
 use Rattle.facts.specs.Tab.{tab}
@@ -65,3 +65,9 @@ module _ {A : Type 0} where
   pub filled-length : {f : ℕ → A} {d : List A} {n : ℕ} {w : List A} → Filled f d n w → n ≤ length d → length w ≡ length d
   filled-length {f} {d} {n} h l =
       ap length h.is ∙ length-append (tab f n) (drop n d) ∙ omega (arith, length-tab f n, length-drop n d)
+
+  -- a list is the list of its own values
+  pub tab-of : (l : List A) (z : A) → tab (λ i. get_or l i z) (length l) ≡ l
+  tab-of l z =
+      ext_get_or z (tab (λ i. get_or l i z) (length l)) l (length-tab _ (length l))
+      (λ k m. get_or-tab (λ i. get_or l i z) (length l) k z (rw (length-tab (λ i. get_or l i z) (length l)) at m))

@@ -1,5 +1,5 @@
 -- How a reader's answer is met, and what it gives. Assumes nothing.
-use Rattle.std.proofs.Common.{◌≡◌, ℕ, ◌<◌, Bool, true, false, cond, ◌&&◌, T, List, [], ◌∷◌, Ok, Err, Result, sym, refl, ap, ◌∙◌, arith}
+use Rattle.std.proofs.Common.{◌≡◌, ℕ, ◌<◌, Bool, true, false, cond, ◌&&◌, T, List, [], ◌∷◌, Ok, Err, Result, sym, refl, ap, ◌∙◌, arith, ltb, ltb→lt, lt→ltb}
 use Rattle.facts.specs.Checks.{Check, check, first_of}
 use Rattle.facts.proofs.Finite.{and_left, and_right}
 use Rattle.facts.proofs.Said.{same-answer}
@@ -69,6 +69,13 @@ said-passes test (c ∷ l) z e = by c.holds (said-passes test l z (and_right (te
     by : (t : Bool) → T (test (first_of l)) → T (test (cond t c.number (first_of l)))
     by true rest = and_left (test c.number) (numbers_pass test l) e
     by false rest = rest
+
+-- so where all are below m, it is
+abbrev pub numbers_below : (m : ℕ) → List Check → Bool
+numbers_below m l = numbers_pass (λ n. ltb n m) l
+
+pub said-below : (m : ℕ) (l : List Check) → T (numbers_below m l) → 0 < m → first_of l < m
+said-below m l e h = ltb→lt (first_of l) m (said-passes (λ n. ltb n m) l (lt→ltb 0 m h) e)
 
 -- two files that say the same: the same number, and the same plate
 pub record SameSays (s t : Says) : Type 0 where

@@ -49,6 +49,13 @@ bytes_read file at v h e =
     let none : at + 0 ≡ at = omega arith in
     rw (rw none at (e 0 (omega arith)), e 1 (omega arith), e 2 (omega arith), e 3 (omega arith)) (four_bytes v h)
 
+-- where a place is named in two parts, the number is that of the four bytes there
+pub from_parts : (file : List ℕ) (at k : ℕ)
+    → get_or file (at + k) 0 + 256 * get_or file (at + (k + 1)) 0 + 65536 * get_or file (at + (k + 2)) 0 + 16777216 * get_or file (at + (k + 3)) 0
+    ≡ u32_at file (at + k)
+unfolding u32_at
+from_parts file at k = rw (add_assoc at k 1, add_assoc at k 2, add_assoc at k 3)
+
 -- later bytes leave a number as it is
 pub field-before : (file more : List ℕ) (at : ℕ) → at + 4 ≤ length file → u32_at (file ++ more) at ≡ u32_at file at
 field-before file more at h = same-field (file ++ more) file at (λ k l. get_or-append file more 0 (at + k) (omega arith))

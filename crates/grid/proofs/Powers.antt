@@ -1,7 +1,8 @@
 -- Laws of powers of two and their logarithms. Assumes nothing.
 use Rattle.std.proofs.Common.{◌≡◌, ℕ, zero, suc, ◌+◌, ◌-◌, ◌*◌, ◌/◌, ◌%◌, ◌^◌, ◌<◌, ◌≤◌, min, true, eqb, sym, refl, ap, ◌∙◌, ⊎_elim, eq-or-lt_of_le}
-use Rattle.std.proofs.Common.{arith, count_ones, pow_pos, le-ltb, lt-ltb, eq-eqb, ne_eqb, eqb-true, bit_and}
-use Rattle.std.proofs.lemmas.Nat.{zero_from_ones, ones_cat, ones_le_self, and_mask}
+use Rattle.std.proofs.Common.{arith, count_ones, pow_pos, le-ltb, lt-ltb, eq-eqb, ne_eqb, eqb-true, bit_and, ap₂}
+use native.Mathlib.Nat.{mod_self}
+use Rattle.std.proofs.lemmas.Nat.{zero_from_ones, ones_cat, ones_le_self, and_mask, and_block}
 use lib.Count.{ones_step}
 use Rattle.facts.proofs.Numbers.{lt-or-le}
 use Rattle.facts.proofs.Powers.{lt-pow}
@@ -71,6 +72,33 @@ halvings-bounds (suc f) n h p =
 pub log2-bounds : (n : ℕ) → 0 < n → (2 ^ log2 n ≤ n) × (n < 2 ^ suc (log2 n))
 unfolding log2
 log2-bounds n p = halvings-bounds n n (omega arith) p
+
+-- `n & (n - 1)` of a power of two is 0
+mask-of-power : (k : ℕ) → bit_and (2 ^ k) (2 ^ k - 1) ≡ 0
+mask-of-power k = and_mask (2 ^ k) k ∙ mod_self (2 ^ k)
+
+-- and of any other number keeps its top bit
+mask-of-other : (k r : ℕ) → 0 < r → r < 2 ^ k → 2 ^ k ≤ bit_and (2 ^ k + r) (2 ^ k + r - 1)
+mask-of-other k r p h =
+    let a : 2 ^ k + r ≡ 1 * 2 ^ k + r = omega arith in
+    let b : 2 ^ k + r - 1 ≡ 1 * 2 ^ k + (r - 1) = omega arith in
+    omega (arith, ap₂ bit_and a b, and_block k 1 1 r (r - 1) h (omega arith))
+
+-- so the test by a mask is the test
+pub mask-test : (n : ℕ) → (n ≡ 0 → ⊥) → eqb (bit_and n (n - 1)) 0 ≡ is_power n
+mask-test n p =
+    let b = log2-bounds n (omega arith) in
+    ⊎_elim
+    (λ e.
+    let none : bit_and n (n - 1) ≡ 0 = ap (λ (m : ℕ). bit_and m (m - 1)) (sym e) ∙ mask-of-power (log2 n) in
+    eq-eqb (bit_and n (n - 1)) 0 none ∙ sym (eq-eqb n (2 ^ log2 n) (sym e)))
+    (λ l.
+    let r : ℕ = n - 2 ^ log2 n in
+    let s : 2 ^ log2 n + r ≡ n = omega arith in
+    let m : bit_and (2 ^ log2 n + r) (2 ^ log2 n + r - 1) ≡ bit_and n (n - 1) = ap (λ (i : ℕ). bit_and i (i - 1)) s in
+    ne_eqb (bit_and n (n - 1)) 0 (omega (arith, pow_pos (log2 n), mask-of-other (log2 n) r (omega arith) (omega arith)))
+    ∙ sym (ne_eqb n (2 ^ log2 n) (omega arith)))
+    (eq-or-lt_of_le b.0)
 
 -- a power's one bit: every other number has one more below its top bit
 pub one-bit : (n : ℕ) → eqb (count_ones n) 1 ≡ is_power n

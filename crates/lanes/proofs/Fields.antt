@@ -22,6 +22,10 @@ module _ (b g r : ℕ) (hb : b < 32) (hg : g < 32) (hr : r < 32) where
   pub red-is : fields b g r / 1024 ≡ r
   red-is = omega arith
 
+  -- together they are a number of fifteen bits
+  pub fields-low : fields b g r < 32768
+  fields-low = omega arith
+
 -- fields of four bits, each followed by its top bit
 module _ (b g r : ℕ) (hb : b < 16) (hg : g < 16) (hr : r < 16) where
   by-fives : (x rest low m v w : ℕ) → x < 32 → low < 32 → bit_and x low ≡ v → bit_and rest m ≡ w → bit_and (x + 32 * rest) (low + 32 * m) ≡ v + 32 * w

@@ -2,9 +2,10 @@
 use Rattle.std.proofs.Common.{◌≡◌, ℕ, ◌+◌, ◌*◌, ◌<◌, ◌≤◌, min, Bool, true, false, List, length, set, arith}
 use Rattle.grid.specs.Grid.{half}
 use Rattle.paint.proofs.Laid.{Row, row-none, row_word}
+use Rattle.lanes.specs.declared.Column.{Column}
 use Rattle.lanes.specs.declared.Sums.{Sums}
 use Rattle.lanes.specs.declared.Meaning.{Meaning}
-use Rattle.lanes.specs.Column.{across, SmallSums}
+use Rattle.lanes.specs.Column.{across, SmallSums, SmallColumn, sums_at}
 use Rattle.lanes.specs.Lanes.{fitted, mixed_lanes, texel_lanes}
 use Rattle.lanes.proofs.Linear.{sums-fit}
 
@@ -40,6 +41,11 @@ module _ {h : ℕ} {a b : Sums} {f : ℕ → ℕ} {old : List ℕ} {at columns i
     word_cut c =
         let same : min i columns ≡ min (i + 1) columns = omega arith in
         record { early = omega arith; is-a = ea; is-b = eb; laid = rw (← same) r.laid }
+
+-- a row of three small columns is small, in either colour
+pub row_small : {left own right : Column} {j : ℕ} → SmallColumn left → SmallColumn own → SmallColumn right → j < 4
+    → SmallSums (sums_at left.a own.a right.a j) × SmallSums (sums_at left.b own.b right.b j)
+row_small p q r l = (record { left = p.a _ l; own = q.a _ l; right = r.a _ l }, record { left = p.b _ l; own = q.b _ l; right = r.b _ l })
 
 -- a texel, as it is made
 pub made : (h x y : ℕ) {m n : Meaning} {a b t : ℕ} → a ≡ fitted h x → b ≡ fitted h y → m ≡ n → t ≡ mixed_lanes a b m.weight m.keep

@@ -66,6 +66,11 @@ first-column {g} s = sym (beside-own g.across 0 (some-across s))
 pub last-column : {g : Grid} {len : ℕ} → Stands g len → g.across - 1 ≡ beside g.across 0 0
 last-column {g} s = sym (last-before g.across (some-across s))
 
+-- v is what is read of column k = 0, 1, 2 beside block bx, round the torus, and is good
+pub record Seen {A : Type 0} (Good : A → Type 0) (read : ℕ → A) (side bx k : ℕ) (v : A) : Type 0 where
+  pub is : v ≡ read (beside side bx k)
+  pub good : Good v
+
 -- part is what column k = 0, 1, 2 beside block bx, round the torus, adds to an address
 pub record SeenPart (g : Grid) (row : RowAddresses) (bx k part : ℕ) : Type 0 where
   pub is : part ≡ address (log2 row.smaller) (beside g.across bx k) 0

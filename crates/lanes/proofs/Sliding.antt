@@ -11,12 +11,16 @@ use Rattle.pixel.specs.declared.ChannelOrder.{ChannelOrder}
 use Rattle.texel.proofs.Range.{words}
 use Rattle.texel.specs.Texel.{texel_in, texel_at, grid_texel}
 use Rattle.lanes.specs.declared.Block.{Block}
+use Rattle.lanes.specs.declared.Codes.{Codes}
 use Rattle.lanes.specs.declared.Meaning.{Meaning}
 use Rattle.lanes.specs.declared.RowAddresses.{RowAddresses}
+use Rattle.lanes.specs.declared.Weights.{Weights}
 use Rattle.lanes.specs.Block.{Said, Middle, in_block, block_of}
+use Rattle.lanes.specs.Block2bpp.{weight_rows, LowRows}
+use Rattle.lanes.specs.Block4bpp.{codes_of}
 use Rattle.lanes.specs.BlockRow.{column_words, InData, Ready}
 use Rattle.lanes.specs.Column.{word_at, SmallColumn}
-use Rattle.lanes.proofs.Placing.{place_in, place_at, RowAt, part-seen, in-data, word-above, word-own, word_below}
+use Rattle.lanes.proofs.Placing.{place_in, place_at, RowAt, part-seen, in-data, word-above, word-own, word_below, Seen, SeenPart}
 use Rattle.lanes.proofs.Window.{column_at, window-texel}
 
 -- v is what is read of column k = 0, 1, 2 beside block bx, round the torus, in row `by`
@@ -60,6 +64,28 @@ module _ {M : Type 0} {stored : List ℕ → M} {Good : M → Type 0} {order : C
 
   pub column-is : v.column ≡ column_at order d (place_at g by bx) k
   column-is = ap (λ (b : Block M). b.column) s.is
+
+-- what is read of column x of row `by`, of its own word alone: its codes, and its weights
+module _ (g : Grid) (by : ℕ) (d : List ℕ) where
+  abbrev codes_in : ℕ → Codes
+  codes_in x = codes_of (word_at d (place_in g by x 1))
+
+  abbrev weights_in : ℕ → Weights
+  weights_in x = weight_rows (word_at d (place_in g by x 1))
+
+  abbrev pub SeenCodes : ℕ → ℕ → Codes → Type 0
+  SeenCodes = Seen (λ k. Unit {0}) codes_in g.across
+
+  abbrev pub SeenWeights : ℕ → ℕ → Weights → Type 0
+  SeenWeights = Seen LowRows weights_in g.across
+
+-- the code reads them by what the column adds to an address
+module _ {g : Grid} {by len bx k part : ℕ} {row : RowAddresses} (r : RowAt g by len row) (p : SeenPart g row bx k part) (d : List ℕ) where
+  pub codes-seen : {v : Codes} → v ≡ codes_of (word_at d (part + row.own)) → SeenCodes g by d bx k v
+  codes-seen e = record { is = e ∙ ap (λ (z : ℕ). codes_of (word_at d z)) (word-own r p).0; good = tt }
+
+  pub weights-seen : {v : Weights} → (v ≡ weight_rows (word_at d (part + row.own))) × LowRows v → SeenWeights g by d bx k v
+  weights-seen e = record { is = e.0 ∙ ap (λ (z : ℕ). weight_rows (word_at d z)) (word-own r p).0; good = e.1 }
 
 -- the middle column of the nine words
 pub middle : {M : Type 0} {stored : List ℕ → M} {Good : M → Type 0} {order : ChannelOrder} {g : Grid} {by : ℕ} {d : List ℕ} {bx : ℕ} {v : Block M}

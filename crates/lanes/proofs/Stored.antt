@@ -1,6 +1,6 @@
 -- Rows of stored weights, byte by byte of the modulation, and what filling them asks. Assumes nothing.
 use Rattle.std.proofs.Common.{◌≡◌, ℕ, zero, suc, ◌+◌, ◌-◌, ◌*◌, ◌/◌, ◌%◌, ◌^◌, ◌<◌, ◌≤◌, Bool, true, false, cond, T, eqb, List, [], ◌∷◌, get_or, sym, refl}
-use Rattle.std.proofs.Common.{ap, ◌∙◌, ap₂, arith, eqb→eq, shr-shr}
+use Rattle.std.proofs.Common.{ap, ◌∙◌, ap₂, arith, eqb→eq, shr-shr, mul-le-mul}
 use lib.Pow.{field, mod-mod-pow}
 use Rattle.facts.proofs.Finite.{below}
 use Rattle.facts.proofs.Tab.{get_or-tab}
@@ -13,7 +13,7 @@ use Rattle.lanes.specs.declared.FillRule.{FillRule}
 use Rattle.lanes.specs.declared.Weights.{Weights}
 use Rattle.lanes.specs.Column.{word_at}
 use Rattle.lanes.specs.Block2bpp.{in_bytes, weight_row, weight_rows, byte_weight, byte_row, bit_row, code_row, fill_rule_of, filled_at, filled_rows}
-use Rattle.lanes.specs.Block2bpp.{LowRow, LowRows, LowRule}
+use Rattle.lanes.specs.Block2bpp.{LowRow, LowRows, LowRule, beside_row, FewTimes}
 use Rattle.lanes.proofs.ByteLanes.{bytes_same, low-row}
 use Rattle.lanes.proofs.Reading.{byte-of}
 
@@ -183,6 +183,28 @@ rule-is d above own below small em eu ee =
       rw (← bit, ← high, ← em, eu.0, ee.0),
       record { above = eu.1; below = ee.1; times = record { beside = times.1; upright = times.2 } },
     )
+
+-- the sums of a fill fit
+pub beside-le : (l c r : ℕ) → LowRow l → LowRow c → LowRow r → beside_row l c r ≤ 0x1010101010101010
+beside-le l c r hl hc hr = total (moved hc.rest) (over hl.all) (back hc.all) hr.first
+  where
+    moved : {a : ℕ} → a ≤ 0x0008080808080808 → a * 256 ≤ 0x0808080808080800
+    moved h = omega arith
+
+    over : {a : ℕ} → a ≤ 0x0808080808080808 → a / 72057594037927936 ≤ 8
+    over h = omega arith
+
+    back : {a : ℕ} → a ≤ 0x0808080808080808 → a / 256 ≤ 0x0008080808080808
+    back h = omega arith
+
+    total : {a b c d : ℕ} → a ≤ 0x0808080808080800 → b ≤ 8 → c ≤ 0x0008080808080808 → d ≤ 8 → (a + b) + (c + d * 72057594037927936) ≤ 0x1010101010101010
+    total ha hb hc hd = omega arith
+
+pub sum_fits : (rule : FillRule) (l c r u e : ℕ) → FewTimes rule → LowRow l × LowRow c × LowRow r × LowRow u × LowRow e
+    → rule.beside * beside_row l c r + rule.upright * (u + e) + 0x0202020202020202 < 18446744073709551616
+sum_fits rule l c r u e few low =
+    let a : u + e ≤ 0x1010101010101010 = omega (arith, low.3.all, low.4.all) in
+    omega (arith, mul-le-mul few.beside (beside-le l c r low.0 low.1 low.2), mul-le-mul few.upright a)
 
 -- the four rows, as the code fills them
 pub filled-are : (l c r : Weights) (rule : FillRule) {w0 w1 w2 w3 : ℕ} → w0 ≡ filled_at l c r rule 0 → w1 ≡ filled_at l c r rule 1

@@ -1,5 +1,6 @@
 -- What a word's codes say at 4bpp is what the definition says. Assumes nothing.
 use Rattle.std.proofs.Common.{◌≡◌, ℕ, ◌+◌, ◌*◌, ◌/◌, ◌%◌, ◌^◌, Bool, true, false, cond, ◌&&◌, eqb, List, sym, refl, ap, ◌∙◌, arith, shr-shr, eq-eqb, ne_eqb}
+use Rattle.std.proofs.Common.{get_or}
 use Rattle.texel.specs.Texel.{Words, near, filled, rule_at, punched}
 use Rattle.texel.proofs.Range.{words}
 use Rattle.word.proofs.Bounds.{weights-4, punch-bit, never-filled}
@@ -15,6 +16,12 @@ code_at : (m x y : ℕ) → code (m / 2 ^ (8 * y)) x ≡ code m (4 * y + x)
 code_at m x y =
     let e : 8 * y + 2 * x ≡ 2 * (4 * y + x) = omega arith in
     ap (λ (n : ℕ). n % 4) (shr-shr m (8 * y) (2 * x) ∙ ap (λ (n : ℕ). m / 2 ^ n) e)
+
+-- the mode is the low bit of byte 4
+pub mode-is : (w : List ℕ) → mode w ≡ eqb (get_or w 4 0 % 2) 1
+mode-is w =
+    let e : (get_or w 4 0 + 256 * get_or w 5 0) / 2 ^ 0 % 2 ≡ get_or w 4 0 % 2 = omega arith in
+    ap (λ (n : ℕ). eqb n 1) e
 
 -- a bit that is 1 where t holds
 bit_is : (t : Bool) (n : ℕ) → n ≡ cond t 1 0 → eqb n 1 ≡ t

@@ -49,6 +49,12 @@ log2-is k n low high =
     let down : log2 n < suc k = pow_lt_cancel (omega (arith, b.0)) in
     omega arith
 
+-- a number from 2 on can be halved once more than its half
+pub log2-half : (n : ℕ) → 2 ≤ n → log2 n ≡ suc (log2 (n / 2))
+log2-half n h =
+    let b = log2-bounds (n / 2) (omega arith) in
+    log2-is (suc (log2 (n / 2))) n (omega (arith, b.0)) (omega (arith, b.1))
+
 -- one below 2 cannot
 pub log2-none : (n : ℕ) → n < 2 → log2 n ≡ 0
 unfolding log2 halvings

@@ -26,6 +26,11 @@ not-large p w h = rw (le-ltb 65536 p.width w, le-ltb 65536 p.height h) refl
 pub need-small : (p : Picture) → large_side p ≡ false → need p ≤ 34359738368
 need-small p e = omega (arith, mul-le-mul (few-across p e) (few-down p e))
 
+-- padding adds three bytes at most
+pub taken-most : (sized : Bool) (n : ℕ) → taken_by sized n ≤ n + 3
+taken-most true n = omega arith
+taken-most false n = omega arith
+
 -- a need is a multiple of eight, so that it is not padded
 taken_is : (sized : Bool) (n : ℕ) → taken_by sized (8 * n) ≡ 8 * n
 taken_is true n = omega arith

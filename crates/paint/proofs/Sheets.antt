@@ -74,3 +74,14 @@ module _ (s : Sheet) (size : ℕ) (f : ℕ → ℕ → ℕ) (old : List ℕ) whe
         (λ x y lx ly. same x y lx (omega arith)) in
         rw (← then)
         (rows-part m (rw so_far at laid) fit.apart (λ x y lx ly. in-room fit x y lx (omega arith)) q)
+
+  -- where they reach the end of a row, or of the sheet, all of it is laid
+  pub all_blocks : (n : ℕ) {img : List ℕ} → s.width ≤ n * size → BlocksLaid n img → img ≡ on_sheet s f old
+  all_blocks n cover laid =
+      let full : min s.width (n * size) ≡ s.width = omega arith in
+      (rw full at laid).is
+
+  pub all-rows : (n : ℕ) {img : List ℕ} → s.height ≤ n * size → RowsLaid n img → img ≡ on_sheet s f old
+  all-rows n cover laid =
+      let full : min s.height (n * size) ≡ s.height = omega arith in
+      (rw full at laid).is

@@ -1,15 +1,20 @@
 -- What was read until the end of the input, or up to the limit, is a file's, so what is answered for it is the file's output. Assumes nothing.
-use Rattle.std.proofs.Common.{◌≡◌, ◌∙◌, sym, ap, subst, ℕ, List, ◌++◌, ◌≤◌, length, take, ⊎_elim, le_of_eq, arith, true≢false}
+use Rattle.std.proofs.Common.{◌≡◌, ◌∙◌, sym, ap, subst, ℕ, List, ◌++◌, ◌≤◌, length, take, ⊎_elim, le_of_eq, arith, true≢false, ◌⊎◌}
 use Rattle.std.specs.Prelude.{Option, None, Some, IfSome, Result, Ok, Err, OnOk, is_ok}
 use Rattle.std.specs.Io.KnownBytes.{Appends, Consumes}
 use Rattle.std.proofs.lemmas.List.{append-nil, length-take-le}
 use Rattle.std.proofs.Math.Seq.{take-append_seam, take_all}
 use Rattle.convert.specs.Output.{output, read_limit}
+use Rattle.convert.proofs.Past.{enough-read}
 use Rattle.plate.specs.Input.{Stopped, came, Answers}
 
 -- no more bytes than the limit
 pub few : (count : ℕ) (left : Option (List ℕ)) → Stopped count left → count ≤ read_limit
 few count left = ⊎_elim (λ e. le_of_eq e) (λ h. h.0)
+
+-- where reading stopped, the bytes that were read have the whole file's output: its first ones, as many as the read limit, or all of it
+pub whole_output : (bytes file : List ℕ) → came bytes file ⊎ (bytes ≡ file) → output bytes ≡ output file
+whole_output bytes file = ⊎_elim (λ is. ap output is ∙ enough-read file) (λ is. ap output is)
 
 -- what reads took is a file's first bytes, or all of it
 came_of : (file left bytes : List ℕ) (count : ℕ) → length bytes ≡ count → file ≡ bytes ++ left → Stopped count (Some left) → came bytes file

@@ -4,12 +4,12 @@ use Rattle.facts.proofs.Numbers.{split}
 use Rattle.facts.proofs.Tab.{tab-front}
 use Rattle.grid.specs.declared.Grid.{Grid}
 use Rattle.grid.specs.Grid.{half, block_width, blocks}
-use Rattle.grid.proofs.Counts.{block_start}
+use Rattle.grid.proofs.Counts.{block_start, blocks-cover}
 use Rattle.lanes.specs.BlockRow.{Ready, with_block_row}
 use Rattle.paint.specs.declared.Sheet.{Sheet}
 use Rattle.paint.specs.Sheet.{on_sheet, rows_from, Fits, largest}
 use Rattle.paint.proofs.Painted.{painted_same}
-use Rattle.paint.proofs.Sheets.{rows_fit, fits_more, RowsLaid, no_rows, next_row}
+use Rattle.paint.proofs.Sheets.{rows_fit, fits_more, RowsLaid, no_rows, next_row, all-rows}
 use Rattle.pixel.specs.Pixel.{packed}
 use Rattle.pixel.specs.declared.ChannelOrder.{ChannelOrder}
 use Rattle.texel.specs.Inner.{nine_of, nine_about}
@@ -20,7 +20,7 @@ use Rattle.pvrtc.specs.declared.Call.TheVariants as call
 use Rattle.pvrtc.specs.declared.Picture.{Picture}
 use Rattle.pvrtc.specs.Calls.{refusal}
 use Rattle.pvrtc.specs.Inner.{block_words, block_texel}
-use Rattle.pvrtc.specs.Picture.{grid_of, sheet_of}
+use Rattle.pvrtc.specs.Picture.{grid_of, sheet_of, picture_texel}
 use Rattle.pvrtc.proofs.Accepted.{Accepted, accepted, stands-as, block-roomy, height-above, covers-across, covers_down}
 
 -- word (x, y) of the buffer is that texel of the middle block
@@ -103,3 +103,9 @@ module _ {p : Picture} {d old : List ℕ} {g : Grid} {s : Sheet} {n : ℕ} (k : 
           → RowsLaid s 4 (grid_texel p.order g d) old (by + 1) new
       row_laid laid q =
           next_row s 4 (grid_texel p.order g d) old sheet-fits by (λ x y. grid_texel p.order g d x (by * 4 + y)) q starts er (λ x y hx hy. refl) laid
+
+  -- all of them are the picture
+  pub all_laid : (by : ℕ) {img : List ℕ} → by ≡ n → RowsLaid s 4 (grid_texel p.order g d) old by img → img ≡ on_sheet (sheet_of p) (picture_texel p d) old
+  all_laid by eb laid =
+      all-rows s 4 (grid_texel p.order g d) old by (rw (eb, k.rows) (blocks-cover 4 s.height (omega arith))) laid
+      ∙ ap₂ (λ (s : Sheet) (g : Grid). on_sheet s (grid_texel p.order g d) old) k.sheet k.grid

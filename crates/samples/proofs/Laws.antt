@@ -11,6 +11,10 @@ set_past [] i v h = refl
 set_past (a ∷ l) zero v h = absurd (not-suc-le-zero h)
 set_past (a ∷ l) (suc i) v h = ap (λ (t : List ℕ). a ∷ t) (set_past l i v (le_of_suc-le-suc h))
 
+-- the byte that tells its place, found from what is left of the place, so that no product is too large
+pub place_byte : (k : ℕ) → (37 * (k % 251) + 11) % 251 ≡ (37 * k + 11) % 251
+place_byte k = omega arith
+
 -- the checksum with one number more
 pub sum_more : (times prime : ℕ) (l : List ℕ) (n : ℕ) {s : ℕ} → s ≡ checksum times prime l n
     → (s % prime * times + get_or l n 0) % prime ≡ checksum times prime l (n + 1)

@@ -50,7 +50,7 @@ module _ {g : Grid} {len : ℕ} (s : Stands g len) (bx by k : ℕ) {x y m : ℕ}
   placed-there = rw (ex, ey) (placed-in s (beside-in s bx by (k % 3) (k / 3)) em)
 
   module _ {z : ℕ} (ez : z ≡ address (log2 m) x y) where
-    there : (z ≡ address_of g bx by k) × (8 * z + 8 ≤ len)
+    pub there : (z ≡ address_of g bx by k) × (8 * z + 8 ≤ len)
     there = located s (beside-in s bx by (k % 3) (k / 3)) em (rw (ex, ey) at ez)
 
     pub in-data : 8 * z ≤ len

@@ -1,13 +1,14 @@
 -- What a word's parts are, one by one, and what they are bounded by: colours by 31, alphas by 15, weights by 8.
 -- Assumes nothing.
 use Rattle.std.proofs.Common.{◌≡◌, refl, Bool, true, false, cond, List, [], ◌∷◌, ℕ, ◌+◌, ◌/◌, ◌%◌, ◌^◌, ◌≤◌, ◌<◌, arith, leb, leb→le}
-use Rattle.std.proofs.Common.{get_or, drop, replicate}
+use Rattle.std.proofs.Common.{get_or, drop, replicate, length, length-append, ap, ◌∙◌}
 use lib.Bits.{and_le_r}
 use Rattle.facts.specs.Bits.{is_set}
 use Rattle.facts.proofs.Bits.{flags-bit}
 use Rattle.facts.proofs.Finite.{at}
 use Rattle.facts.proofs.Numbers.{cond-le}
-use Rattle.facts.proofs.Tab.{get_or-tab, tab-front}
+use Rattle.facts.proofs.Tab.{get_or-tab, tab-front, length-tab}
+use Rattle.facts.specs.Tab.{tab}
 use Rattle.word.specs.Word.{modulation, color_a, color_b, mode, opaque, blue_a, blue_b, color_of, Small, code, standard_weight, punch_through_weight}
 use Rattle.word.specs.Word.{weight4bpp, punch4bpp, holds_code, gives_bit, stored2bpp, weight2bpp, word_of}
 use Rattle.word.specs.declared.Fill.TheVariants.{Nothing}
@@ -71,6 +72,14 @@ weights-4 d i h = tab-front (weight4bpp (mode d) (modulation d)) 16 i (drop 16 (
 pub weights-2 : (d : List ℕ) (i : ℕ) → i < 32 → get_or (word_of true d).weight i 0 ≡ weight2bpp (mode d) (modulation d) i
 unfolding word_of
 weights-2 d i h = get_or-tab (weight2bpp (mode d) (modulation d)) 32 i 0 h
+
+-- there are 32 of them, at either depth
+pub weights-length : (two : Bool) (d : List ℕ) → length (word_of two d).weight ≡ 32
+unfolding word_of
+weights-length true d = length-tab (weight2bpp (mode d) (modulation d)) 32
+weights-length false d =
+    length-append (tab (weight4bpp (mode d) (modulation d)) 16) (drop 16 (replicate 32 0))
+    ∙ ap (λ (n : ℕ). n + 16) (length-tab (weight4bpp (mode d) (modulation d)) 16)
 
 pub weight-le : (two : Bool) (d : List ℕ) (i : ℕ) → i < cond two 32 16 → get_or (word_of two d).weight i 0 ≤ 8
 weight-le true d i h = rw (weights-2 d i h) (weight2bpp-le (mode d) (modulation d) i)
