@@ -36,6 +36,7 @@ pub static SIZES_2BPP: [(usize, usize); 14] = [
 ];
 
 // A kind of words: its name, the bits of a word that it decides, and those of them that are set.
+#[derive(Clone, Copy)]
 pub struct Kind {
     pub name: &'static str,
     pub decided: u64,

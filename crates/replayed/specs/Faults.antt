@@ -1,4 +1,4 @@
--- What a file is refused for, brought into it. Assumes nothing: these are definitions.
+-- What a file is refused for, brought into it, and how a listing names it. Assumes nothing: these are definitions.
 use Rattle.std.specs.Prelude.{List, ℕ}
 use Rattle.samples.specs.File.{with_u32}
 use Rattle.replayed.specs.declared.fault.Fault.{Fault}
@@ -32,3 +32,32 @@ brought fault.NotOnePlate old = with_u32 52 6 old
 brought fault.OtherSize old = old
 brought fault.CutShort old = old
 brought fault.CutBeforeLevel old = old
+
+-- The documents' number, by which a listing names it; 137 is the 37 for an asked level.
+abbrev pub number_of : Fault → ℕ
+number_of fault.ZeroSide = 1
+number_of fault.LargeSide = 2
+number_of fault.ShortData = 3
+number_of fault.ShortImage = 4
+number_of fault.NotPowerOfTwo = 5
+number_of fault.ShortPvrHeader = 11
+number_of fault.NotPvr = 12
+number_of fault.UnknownPvrFormat = 13
+number_of fault.DepthNotOne = 14
+number_of fault.SurfacesNotOne = 15
+number_of fault.FacesNotOne = 16
+number_of fault.NoLevel = 17
+number_of fault.UnknownFlags = 18
+number_of fault.NoSuchLevel = 19
+number_of fault.TooManyLevels = 20
+number_of fault.MuchSkipped = 21
+number_of fault.LongSide = 22
+number_of fault.LargeNeed = 23
+number_of fault.ShortKtxHeader = 31
+number_of fault.NotKtx = 32
+number_of fault.OtherByteOrder = 33
+number_of fault.UnknownKtxFormat = 34
+number_of fault.NotOnePlate = 35
+number_of fault.OtherSize = 36
+number_of fault.CutShort = 37
+number_of fault.CutBeforeLevel = 137

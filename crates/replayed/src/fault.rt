@@ -1,6 +1,7 @@
 // What a file is refused for.
-ghost use Rattle.std.specs.Prelude.{◌≡◌};
-ghost use Rattle.replayed.specs.Faults.{brought};
+ghost use Rattle.std.specs.Prelude.{◌≡◌, Some};
+ghost use Rattle.std.specs.Fmt.{decimal};
+ghost use Rattle.replayed.specs.Faults.{brought, number_of};
 
 use std::fmt;
 
@@ -57,6 +58,8 @@ impl Fault {
 }
 
 impl fmt::Display for Fault {
+    ghost output = { λ f. Some (decimal (number_of f)) };
+
     fn fmt<W: fmt::Write>(&self, f: &mut fmt::Formatter<W>) -> fmt::Result {
         write!(f, "{}", *self as u8)
     }

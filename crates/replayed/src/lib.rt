@@ -4,13 +4,14 @@
 
 mod fault;
 
-ghost use Rattle.std.specs.Prelude.{◌≡◌};
+ghost use Rattle.std.specs.Prelude.{◌≡◌, Some};
 ghost use Rattle.std.specs.Fn.{FnOnceReturnsAt};
 ghost use Rattle.convert.specs.Output.{output};
 ghost use Rattle.pixel.specs.declared.ChannelOrder.TheVariants as order;
 ghost use Rattle.pvrtc.specs.Picture.{picture};
 ghost use Rattle.pvrtc.specs.declared.GridMode.TheVariants as mode;
 ghost use Rattle.listing.specs.Names.{taken_need};
+ghost use Rattle.replayed.specs.Texts.{output_text};
 
 use convert::{IMAGE_WORDS, OUT_BYTES};
 pub use fault::Fault;
@@ -23,6 +24,8 @@ use std::{fmt, str};
 pub struct Output<'a>(pub &'a [u8]);
 
 impl fmt::Display for Output<'_> {
+    ghost output = { λ o. Some (output_text o.0.now) };
+
     fn fmt<W: fmt::Write>(&self, f: &mut fmt::Formatter<W>) -> fmt::Result {
         match str::from_utf8(self.0) {
             Ok(line) if line.len() < 12 => f.write_str(line),
