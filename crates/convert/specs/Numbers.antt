@@ -43,12 +43,12 @@ unfolding from_number
 back (Pvr f) =
     let n : ℕ = pvr-spec.number_of f in
     let kind = pvr.is_header_number in
-    let e = pvr.header-number f in
+    let e = pvr.own-number f in
     rw (e, not-at kind n 21 e refl, not-at kind n 22 e refl, not-at kind n 23 e refl, not-at kind n 36 e refl) (ap Pvr (pvr.back f))
 back (Ktx f) =
     let n : ℕ = ktx-spec.number_of f in
     let kind = ktx.is_header_number in
-    let e = ktx.header-number f in
+    let e = ktx.own-number f in
     rw (e, one-reader n e, not-at kind n 21 e refl, not-at kind n 22 e refl, not-at kind n 23 e refl, not-at kind n 36 e refl) (ap Ktx (ktx.back f))
 back LongSkipped = refl
 back LongSide = refl

@@ -1,4 +1,4 @@
--- No refusal has the number 0, and no two have the same; and which numbers a header's are, for those above that have numbers of their own. Assumes nothing.
+-- No refusal has the number 0, and no two have the same; and which numbers a header's are, for `convert`, which has numbers of its own. Assumes nothing.
 use Rattle.std.specs.Prelude.{◌≡◌, Bool, true, cond, not, ◌&&◌, ℕ, ◌<◌, eqb, ltb, refl}
 use Rattle.std.proofs.Common.{sym, ap, ◌∙◌, ltb→lt}
 use Rattle.pvrtc.specs.Numbers as call
@@ -33,17 +33,17 @@ back UnknownFormat = refl
 back NotOnePlate = refl
 back CutShort = refl
 
--- the numbers of a header's refusals are among these
+-- The numbers of a header's refusals are among these: 36 is that of another size.
 abbrev pub is_header_number : ℕ → Bool
 is_header_number n = ltb 30 n && ltb n 38 && not (eqb n 36)
 
-pub header-number : (f : HeaderRefusal) → is_header_number (number_of f) ≡ true
-header-number ShortHeader = refl
-header-number NotKtx = refl
-header-number OtherByteOrder = refl
-header-number UnknownFormat = refl
-header-number NotOnePlate = refl
-header-number CutShort = refl
+pub own-number : (f : HeaderRefusal) → is_header_number (number_of f) ≡ true
+own-number ShortHeader = refl
+own-number NotKtx = refl
+own-number OtherByteOrder = refl
+own-number UnknownFormat = refl
+own-number NotOnePlate = refl
+own-number CutShort = refl
 
 pub same-refusal : (f g : HeaderRefusal) → number_of f ≡ number_of g → f ≡ g
 same-refusal f g e = sym (back f) ∙ ap from_number e ∙ back g

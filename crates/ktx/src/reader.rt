@@ -55,6 +55,7 @@ fn is_unknown_format(file: &[u8]) -> bool
 }
 
 // Whether a field says that the file holds something else than one plate: the depth at 44, array elements at 48, faces at 52.
+// Inside its caller the fields are known to be there, which a call of its own would ask for each.
 #[inline(always)]
 fn is_not_one_plate(file: &[u8]) -> bool
     ensures { result ≡ not_one_plate file.now }
@@ -86,7 +87,7 @@ pub fn level_count(file: &[u8]) -> u32
     files::u32_at(file, 56).max(1)
 }
 
-// Where the key/value bytes end; how many these are stands at 60. A size word follows.
+// Where the key/value bytes end; how many these are stands at 60. A size word follows. Inlined for the same reason.
 #[inline(always)]
 pub fn size_place(file: &[u8]) -> usize
     ensures { (result ≡ size_place file.now) × (result < 4294967360) }

@@ -92,7 +92,13 @@ pub middle : {M : Type 0} {stored : List ℕ → M} {Good : M → Type 0} {order
     → SeenBlock stored Good order g by d bx 1 v → Middle (nine_about g by d bx) d v.at
 middle s = rw s.is (record { above = refl; own = refl; below = refl })
 
--- a step of the window: the next block has it one column earlier
+-- a step: the next block has what is seen one column earlier
+pub seen-earlier : {A : Type 0} {Good : A → Type 0} {read : ℕ → A} {side bx : ℕ} {v : A} (k : ℕ) → Seen Good read side bx (k + 1) v
+    → Seen Good read side (bx + 1) k v
+unfolding beside
+seen-earlier {read = read} {side = side} k s = record { is = s.is ∙ ap (λ (n : ℕ). read (n % side)) (omega arith); good = s.good }
+
+-- and so a step of the window
 module _ {M : Type 0} {stored : List ℕ → M} {Good : M → Type 0} {order : ChannelOrder} {g : Grid} {by : ℕ} {d : List ℕ} {bx : ℕ} where
   earlier : (k : ℕ) {v : Block M} → SeenBlock stored Good order g by d bx (k + 1) v → SeenBlock stored Good order g by d (bx + 1) k v
   unfolding beside

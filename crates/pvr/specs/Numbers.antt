@@ -1,4 +1,4 @@
--- No refusal has the number 0, and no two have the same; and which numbers theirs are, for those above that have numbers of their own. Assumes nothing.
+-- No refusal has the number 0, and no two have the same; and which numbers theirs are, for `convert`, which has numbers of its own. Assumes nothing.
 use Rattle.std.specs.Prelude.{◌≡◌, Bool, true, cond, ◌&&◌, ℕ, ◌<◌, eqb, ltb, refl}
 use Rattle.std.proofs.Common.{sym, ap, ◌∙◌, ltb→lt}
 use Rattle.pvr.specs.declared.HeaderRefusal.{HeaderRefusal}
@@ -40,15 +40,15 @@ back NoLevel = refl
 abbrev pub is_header_number : ℕ → Bool
 is_header_number n = ltb 10 n && ltb n 19
 
-pub header-number : (f : HeaderRefusal) → is_header_number (number_of f) ≡ true
-header-number ShortHeader = refl
-header-number NotPvr = refl
-header-number UnknownFlags = refl
-header-number UnknownFormat = refl
-header-number DepthNotOne = refl
-header-number SurfacesNotOne = refl
-header-number FacesNotOne = refl
-header-number NoLevel = refl
+pub own-number : (f : HeaderRefusal) → is_header_number (number_of f) ≡ true
+own-number ShortHeader = refl
+own-number NotPvr = refl
+own-number UnknownFlags = refl
+own-number UnknownFormat = refl
+own-number DepthNotOne = refl
+own-number SurfacesNotOne = refl
+own-number FacesNotOne = refl
+own-number NoLevel = refl
 
 pub same-refusal : (f g : HeaderRefusal) → number_of f ≡ number_of g → f ≡ g
 same-refusal f g e = sym (back f) ∙ ap from_number e ∙ back g

@@ -43,11 +43,11 @@ pub fn decode_row(data: &[u8], p: Picture, y: usize, row: &mut [u32]) -> Result<
             texel::texels_in(next, g.is2bpp, 0, y % 4, width, p.order, &mut texels);
             nine = next;
         }
-        let Ok(texel) = known_texel(&texels, data, p, x, y) else {
+        let Ok(found) = known_texel(&texels, data, p, x, y) else {
             // By the checks above no texel of the row is refused.
             return Err(Refusal::Outside);
         };
-        *word = texel;
+        *word = found;
     }
     Ok(())
 }
