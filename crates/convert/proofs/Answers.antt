@@ -1,5 +1,6 @@
 -- How the promise of a conversion is met, and that no two outcomes meet it. Assumes nothing.
-use Rattle.std.proofs.Common.{◌≡◌, ℕ, ◌*◌, ◌/◌, ◌%◌, ◌<◌, ◌≤◌, false, eqb, List, ◌++◌, length, get_or, Ok, Err, Result, sym, ap, ◌∙◌, arith, ne_eqb}
+use Rattle.std.proofs.Common.{◌≡◌, ℕ, ◌*◌, ◌/◌, ◌%◌, ◌<◌, ◌≤◌, false, eqb, List, ◌++◌, length, get_or}
+use Rattle.std.proofs.Common.{Ok, Err, Result, sym, ap, ◌∙◌, arith, ne_eqb}
 use Rattle.facts.specs.Checks.{first_of}
 use Rattle.facts.proofs.Tab.{tab-same}
 use Rattle.pvrtc.specs.declared.Call.TheVariants as call
@@ -14,7 +15,7 @@ use Rattle.files.specs.Fields.{byte_of}
 use Rattle.files.specs.declared.Stored.{Stored}
 use Rattle.convert.specs.Inner.{Laid}
 use Rattle.convert.specs.Output.{picture_of, limit_checks, own_checks, refused_line, tga_header, tga_of, tga, written, Answered}
-use Rattle.convert.proofs.Limits.{kept, own-number, few_words, call-says}
+use Rattle.convert.proofs.Limits.{own-number, past-limits}
 
 -- no two outcomes meet the promise
 pub one-converted : {n : ℕ} {p : Picture} {d image image₁ image₂ out out₁ out₂ : List ℕ} {r s : ℕ} → Answered n p d image image₁ out out₁ r
@@ -32,7 +33,8 @@ module _ (n : ℕ) (p : Picture) (d : List ℕ) where
   written-tga e = rw e
 
 -- a number is said: its line, and the words as they were
-pub by-line : {n : ℕ} {p : Picture} {d image out out' : List ℕ} {r : ℕ} → 0 < n → Laid (refused_line n) out out' r → Answered n p d image image out out' r
+pub by-line : {n : ℕ} {p : Picture} {d image out out' : List ℕ} {r : ℕ} → 0 < n → Laid (refused_line n) out out' r
+    → Answered n p d image image out out' r
 by-line {n} {p} {d} above l =
     let line : refused_line n ≡ written n p d = sym (written-line n p d above) in
     let other : eqb n 0 ≡ false = ne_eqb n 0 (omega arith) in
@@ -60,11 +62,8 @@ module _ (s : Stored) (d : List ℕ) where
 
   module _ {image image' : List ℕ} {decoded : Result (Unit {0}) Refusal} (none : first_of (limit_checks s) ≡ 0) (room : 131072 ≤ length image)
       (b : BlockDecoded p d image image' decoded) where
-    -- past the limits it is the block call that speaks
     as_called : first_of (own_checks s (length d)) ≡ refusal p (call.Block (length image)) d
-    as_called =
-        let k = kept s none in
-        own-number s (length d) ∙ rw none (sym (call-says p (length image) (length d) k.sides k.small (omega (arith, few_words p k.needed))))
+    as_called = past-limits s (length image) (length d) none room
 
     said : decoded_number decoded ≡ first_of (own_checks s (length d))
     said = b.number ∙ sym as_called

@@ -1,6 +1,6 @@
 -- Bytes laid in front of lent ones, from the first on. Assumes nothing.
-use Rattle.std.proofs.Common.{◌≡◌, ℕ, ◌≤◌, List, length, take, drop, ◌∙◌, arith, length-append, length-drop, ◌+◌, ◌-◌, ◌*◌, ◌<◌, ◌++◌, sym, ap, ⊎_elim}
-use Rattle.std.proofs.Common.{append_assoc, get_or, get_or-append-add, get_or-drop}
+use Rattle.std.proofs.Common.{◌≡◌, ℕ, ◌+◌, ◌-◌, ◌*◌, ◌<◌, ◌≤◌, List, ◌++◌, length, take, drop, get_or, sym, ap, ◌∙◌, ⊎_elim, arith}
+use Rattle.std.proofs.Common.{length-append, length-drop, append_assoc, get_or-append-add, get_or-drop}
 use lib.ListN.{get_or-append}
 use lib.Seq.{take-append_seam}
 use Rattle.facts.specs.Tab.{tab}

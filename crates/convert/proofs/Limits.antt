@@ -1,5 +1,5 @@
 -- What the program's limits say, and what is known of a plate that keeps them. Assumes nothing.
-use Rattle.std.proofs.Common.{◌≡◌, ℕ, ◌*◌, ◌≤◌, Bool, true, false, cond, eqb, ltb, ap, ◌∙◌, mul-le-mul, mul-le-mul_left, arith, ltb-false, le-ltb}
+use Rattle.std.proofs.Common.{◌≡◌, ℕ, ◌*◌, ◌≤◌, Bool, true, false, cond, eqb, ltb, sym, ap, ◌∙◌, mul-le-mul, mul-le-mul_left, arith, ltb-false, le-ltb}
 use Rattle.facts.specs.Checks.{first_of, condition}
 use Rattle.facts.proofs.Checks.{none_said, first-append}
 use Rattle.facts.proofs.Or.{or_left, or_right}
@@ -72,6 +72,14 @@ pub call-says : (p : Picture) (room len : ℕ) → zero_side p ≡ false → lon
     → first_of (checks p (call.Block room) len) ≡ first_of (payload_checks p len)
 unfolding first_of short_image outside
 call-says p room len z l fits = simp (z, not-large p l, le-ltb room (p.width * p.height) fits)
+
+-- so past the limits it is the block call that speaks
+pub past-limits : (s : Stored) (room len : ℕ) → first_of (limit_checks s) ≡ 0 → 131072 ≤ room
+    → first_of (own_checks s len) ≡ first_of (checks (picture_of s) (call.Block room) len)
+past-limits s room len none enough =
+    let k = kept s none in
+    let p = picture_of s in
+    own-number s len ∙ rw none (sym (call-says p room len k.sides k.small (omega (arith, few_words p k.needed))))
 
 -- the picture fits into enough words, and its TGA into enough bytes
 pub tga-fits : (s : Stored) {image out words : ℕ} → first_of (limit_checks s) ≡ 0 → Room image out → words ≡ image

@@ -1,6 +1,6 @@
 -- From a reader's answer to what is written for the whole file. Assumes nothing.
-use Rattle.std.proofs.Common.{◌≡◌, ℕ, ◌/◌, ◌%◌, ◌≤◌, false, cond, eqb, List, length, get_or, Ok, Err, Result, sym, refl, ap, ◌∙◌, arith, ne_eqb, ◌-◌, ◌<◌, min}
-use Rattle.std.proofs.Common.{take, drop}
+use Rattle.std.proofs.Common.{◌≡◌, ℕ, ◌/◌, ◌%◌, ◌-◌, ◌<◌, ◌≤◌, false, cond, eqb, min, List, length, get_or, take, drop}
+use Rattle.std.proofs.Common.{Ok, Err, Result, sym, refl, ap, ◌∙◌, arith, ne_eqb}
 use Rattle.facts.specs.Checks.{first_of}
 use Rattle.files.specs.Reading.{Says, Shown}
 use Rattle.files.specs.declared.Stored.{Stored}
@@ -22,7 +22,7 @@ use Rattle.convert.specs.Output.{says_of, stored_in, picture_of, plate_of, level
 use Rattle.convert.specs.Output.{refused_line, tga_of, written, Answered, Converted, Room, header_refusal}
 use Rattle.convert.proofs.Answers.{written-line, written-tga, tga-same}
 use Rattle.convert.proofs.Either.{header-small}
-use Rattle.convert.proofs.Limits.{kept, own-number, own_same, few_words, call-says, tga-fits}
+use Rattle.convert.proofs.Limits.{kept, own-number, own_same, few_words, call-says, past-limits, tga-fits}
 use Rattle.convert.proofs.Said.{header-first, none-early, none_said}
 
 -- the parts of an answer may be replaced by equal ones
@@ -67,13 +67,9 @@ module _ (file image : List ℕ) where
         {decoded : Result (Unit {0}) CallRefusal} (b : BlockDecoded (picture_of s) d image image' decoded) where
       as_called : program_refusal file ≡ refusal (picture_of s) (call.Block (length image)) d
       as_called =
-          let k = kept s (sym none) in
-          let p = picture_of s in
           own
-          ∙ own-number s (length (level_data file))
-          ∙ rw (sym none)
-          (sym (call-says p (length image) (length (level_data file)) k.sides k.small (omega (arith, few_words p k.needed)))
-          ∙ ap (λ (l : List ℕ). refusal p (call.Block (length image)) l) (sym same))
+          ∙ past-limits s (length image) (length (level_data file)) (sym none) room
+          ∙ ap (λ (l : List ℕ). refusal (picture_of s) (call.Block (length image)) l) (sym same)
 
       said : decoded_number decoded ≡ program_refusal file
       said = b.number ∙ sym as_called

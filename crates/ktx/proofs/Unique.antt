@@ -5,11 +5,10 @@ use Rattle.files.proofs.Fields.{same-depth}
 use Rattle.files.specs.declared.Stored.{Stored}
 use Rattle.pixel.specs.declared.ChannelOrder.{ChannelOrder}
 use Rattle.ktx.specs.declared.HeaderRefusal.{HeaderRefusal}
-use Rattle.ktx.specs.declared.HeaderRefusal.TheVariants.{ShortHeader, NotKtx, OtherByteOrder, UnknownFormat, NotOnePlate, CutShort}
 use Rattle.ktx.specs.declared.Plate.{Plate}
 use Rattle.ktx.specs.declared.Refusal.{Refusal}
 use Rattle.ktx.specs.Header.{number_of, header_number, header_width, header_height, header_bits, header_payload, header_size_word, HeaderRead}
-use Rattle.ktx.specs.Numbers.{number-above, same-refusal, reason-above, same-reason}
+use Rattle.ktx.specs.Numbers.{number-above, own-number, same-refusal, reason-above, same-reason}
 use Rattle.ktx.specs.Picture.{reason_number, decoded_number, KtxDecoded}
 use Rattle.ktx.specs.Reading.{fields_number, fields_plate, FieldsRead}
 
@@ -38,12 +37,7 @@ one-header file r s a b =
 
 -- a header's number is 31 to 37 and not 36
 pub from-31 : (f : HeaderRefusal) → (31 ≤ number_of f) × ((number_of f ≡ 36) → ⊥)
-from-31 ShortHeader = (omega arith, λ e. omega arith)
-from-31 NotKtx = (omega arith, λ e. omega arith)
-from-31 OtherByteOrder = (omega arith, λ e. omega arith)
-from-31 UnknownFormat = (omega arith, λ e. omega arith)
-from-31 NotOnePlate = (omega arith, λ e. omega arith)
-from-31 CutShort = (omega arith, λ e. omega arith)
+from-31 f = (grind (arith, own-number f), λ e. grind (arith, own-number f, e))
 
 -- a number tells the answer to decoding a file
 pub same-decoded : (r s : Result (Unit {0}) Refusal) → decoded_number r ≡ decoded_number s → r ≡ s

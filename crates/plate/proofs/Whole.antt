@@ -1,5 +1,6 @@
 -- What was read until the end of the input, or up to the limit, is a file's, so what is answered for it is the file's output. Assumes nothing.
-use Rattle.std.proofs.Common.{◌≡◌, ◌∙◌, sym, ap, subst, ℕ, List, ◌++◌, ◌≤◌, length, take, ⊎_elim, le_of_eq, arith, true≢false, ◌⊎◌}
+use Rattle.std.proofs.Common.{◌≡◌, ◌∙◌, sym, ap, subst, ℕ, List, ◌++◌, ◌⊎◌, ◌≤◌, length, take}
+use Rattle.std.proofs.Common.{⊎_elim, le_of_eq, arith, true≢false}
 use Rattle.std.specs.Prelude.{Option, None, Some, IfSome, Result, Ok, Err, OnOk, is_ok}
 use Rattle.std.specs.Io.KnownBytes.{Appends, Consumes}
 use Rattle.std.proofs.lemmas.List.{append-nil, length-take-le}

@@ -2,22 +2,13 @@
 use Rattle.std.proofs.Common.{◌≡◌, ℕ, ◌≤◌, List, Ok, Err, Result, sym, ap, ◌∙◌, arith}
 use Rattle.files.proofs.Fields.{same-depth}
 use Rattle.pvr.specs.declared.HeaderRefusal.{HeaderRefusal}
-use Rattle.pvr.specs.declared.HeaderRefusal.TheVariants.{ShortHeader, NotPvr, UnknownFlags, UnknownFormat}
-use Rattle.pvr.specs.declared.HeaderRefusal.TheVariants.{DepthNotOne, SurfacesNotOne, FacesNotOne, NoLevel}
 use Rattle.pvr.specs.Header.{number_of, header_number, header_width, header_height, header_bits, header_payload, HeaderRead}
 use Rattle.pvr.specs.declared.Plate.{Plate}
-use Rattle.pvr.specs.Numbers.{number-above, same-refusal}
+use Rattle.pvr.specs.Numbers.{number-above, own-number, same-refusal}
 
 -- it is 11 to 18
 pub from-11 : (f : HeaderRefusal) → (11 ≤ number_of f) × (number_of f ≤ 18)
-from-11 ShortHeader = omega arith
-from-11 NotPvr = omega arith
-from-11 UnknownFlags = omega arith
-from-11 UnknownFormat = omega arith
-from-11 DepthNotOne = omega arith
-from-11 SurfacesNotOne = omega arith
-from-11 FacesNotOne = omega arith
-from-11 NoLevel = omega arith
+from-11 f = grind (arith, own-number f)
 
 -- answers with the same number and the same values are the same
 pub same-header : (r s : Result Plate HeaderRefusal) → header_number r ≡ header_number s → header_width r ≡ header_width s

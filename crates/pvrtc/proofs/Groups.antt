@@ -1,10 +1,14 @@
 -- Groups of checks, one after the other. Assumes nothing.
-use Rattle.std.proofs.Common.{◌≡◌, sym, ap, ◌∙◌, ℕ, List, ◌++◌, T, Ok, Err, Result}
-use Rattle.facts.specs.Checks.{Check, first_of, numbered}
+use Rattle.std.proofs.Common.{◌≡◌, sym, ap, ◌∙◌, Bool, ℕ, List, [], ◌∷◌, ◌++◌, T, Ok, Err, Result}
+use Rattle.facts.specs.Checks.{Check, check, first_of, numbered}
 use Rattle.facts.proofs.Checks.{said-first, said-later}
 use Rattle.pvrtc.specs.Numbers.{number-above}
 use Rattle.pvrtc.specs.Refusals.{decoded_number, Says}
 use Rattle.pvrtc.specs.declared.Refusal.{Refusal}
+
+-- a group of one check says what its condition says
+pub one-asked : (n : ℕ) {said : ℕ} {t u : Bool} → said ≡ first_of (check t n ∷ []) → t ≡ u → said ≡ first_of (check u n ∷ [])
+one-asked n says e = says ∙ ap (λ (b : Bool). first_of (check b n ∷ [])) e
 
 module _ (l m : List Check) {r : Result (Unit {0}) Refusal} (t : T (numbered l)) (says : Says r l) where
   -- what a group refuses is refused, whatever follows

@@ -105,7 +105,8 @@ module _ {p : Picture} {d old : List ℕ} {g : Grid} {s : Sheet} {n : ℕ} (k : 
           next_row s 4 (grid_texel p.order g d) old sheet-fits by (λ x y. grid_texel p.order g d x (by * 4 + y)) q starts er (λ x y hx hy. refl) laid
 
   -- all of them are the picture
-  pub all_laid : (by : ℕ) {img : List ℕ} → by ≡ n → RowsLaid s 4 (grid_texel p.order g d) old by img → img ≡ on_sheet (sheet_of p) (picture_texel p d) old
+  pub all_laid : (by : ℕ) {img : List ℕ} → by ≡ n → RowsLaid s 4 (grid_texel p.order g d) old by img
+      → img ≡ on_sheet (sheet_of p) (picture_texel p d) old
   all_laid by eb laid =
       all-rows s 4 (grid_texel p.order g d) old by (rw (eb, k.rows) (blocks-cover 4 s.height (omega arith))) laid
       ∙ ap₂ (λ (s : Sheet) (g : Grid). on_sheet s (grid_texel p.order g d) old) k.sheet k.grid

@@ -50,7 +50,8 @@ one_written {n} {done} {old} {new} {new'} {r} {s} a b = (same-decoded r s (a.num
 pub by-words : {n : ℕ} {done old new : List ℕ} → n ≡ 0 → new ≡ done → Written n done old new (Ok tt)
 by-words {n} e q = record { number = sym e; words = rw e q }
 
-pub by-none : {n : ℕ} {done old : List ℕ} {r : Result (Unit {0}) Refusal} {f : Refusal} → decoded_number r ≡ n → r ≡ Err f → Written n done old old r
+pub by-none : {n : ℕ} {done old : List ℕ} {r : Result (Unit {0}) Refusal} {f : Refusal} → decoded_number r ≡ n → r ≡ Err f
+    → Written n done old old r
 by-none {n} {done} {old} {r} {f} e q =
     let above : 0 < n = rw (sym e ∙ ap decoded_number q) (number-above f) in
     let other : eqb n 0 ≡ false = ne_eqb n 0 (omega arith) in

@@ -1,9 +1,9 @@
 -- `pvrtc::check::check` meets its contract: a group that refuses speaks, and one that does not leaves it to those after it. Assumes nothing.
-use Rattle.std.proofs.Common.{◌≡◌, false, refl, sym, ap, ◌∙◌, Bool, ℕ, List, [], ◌∷◌, ◌++◌, Ok}
+use Rattle.std.proofs.Common.{◌≡◌, false, refl, sym, ℕ, List, ◌++◌, Ok}
 use Rattle.facts.proofs.Checks.{none_said}
 use Rattle.facts.proofs.Said.{at_exit}
-use Rattle.facts.specs.Checks.{Check, check, first_of}
-use Rattle.pvrtc.proofs.Groups.{stops, goes_on}
+use Rattle.facts.specs.Checks.{Check, first_of}
+use Rattle.pvrtc.proofs.Groups.{stops, goes_on, one-asked}
 use Rattle.pvrtc.specs.declared.Call.{Call}
 use Rattle.pvrtc.specs.declared.Picture.{Picture}
 use Rattle.pvrtc.specs.Refusals.{large_side, size_checks, data_checks, room_checks, grid_checks, place_checks, checks, Says}
@@ -15,10 +15,6 @@ placed p call = grid_checks p ++ place_checks p call
 
 abbrev roomed : Picture → Call → List Check
 roomed p call = room_checks p call ++ placed p call
-
--- a group of one check says what its condition says
-one : (n : ℕ) {said : ℕ} {t u : Bool} → said ≡ first_of (check t n ∷ []) → t ≡ u → said ≡ first_of (check u n ∷ [])
-one n says e = says ∙ ap (λ (b : Bool). first_of (check b n ∷ [])) e
 
 -- past the sizes no side is large, and what the rest says is said; past the data likewise, and past the room
 module _ (p : Picture) (call : Call) (len : ℕ) (sized : Says (Ok tt) (size_checks p)) where
@@ -48,7 +44,7 @@ returns-in_err-refuse_if c =
     let a = c.args in
     rw (at_exit c.from_residual-in_err-refuse_if.ensures)
     (past-sizes a.p a.call a.len c.in_ok-check_sizes.ensures _
-    (stops (data_checks a.p a.len) _ tt (one 3 c.in_err-refuse_if.ensures c.has_short_data.ensures) refl))
+    (stops (data_checks a.p a.len) _ tt (one-asked 3 c.in_err-refuse_if.ensures c.has_short_data.ensures) refl))
 
 pub has_short_image-requires : goal.has_short_image-requires
 has_short_image-requires c = small c.args.p c.args.call c.args.len c.in_ok-check_sizes.ensures
@@ -57,20 +53,20 @@ pub returns-in_err-refuse_if-2 : goal.returns-in_err-refuse_if-2
 returns-in_err-refuse_if-2 c =
     let a = c.args in
     rw (at_exit c.from_residual-in_err-refuse_if-2.ensures)
-    (past-data a.p a.call a.len c.in_ok-check_sizes.ensures (one 3 c.in_ok-refuse_if.ensures c.has_short_data.ensures) _
-    (stops (room_checks a.p a.call) _ tt (one 4 c.in_err-refuse_if-2.ensures c.has_short_image.ensures) refl))
+    (past-data a.p a.call a.len c.in_ok-check_sizes.ensures (one-asked 3 c.in_ok-refuse_if.ensures c.has_short_data.ensures) _
+    (stops (room_checks a.p a.call) _ tt (one-asked 4 c.in_err-refuse_if-2.ensures c.has_short_image.ensures) refl))
 
 pub returns-in_err-refuse_if-3 : goal.returns-in_err-refuse_if-3
 returns-in_err-refuse_if-3 c =
     let a = c.args in
     rw (at_exit c.from_residual-in_err-refuse_if-3.ensures)
-    (past_room a.p a.call a.len c.in_ok-check_sizes.ensures (one 3 c.in_ok-refuse_if.ensures c.has_short_data.ensures)
-    (one 4 c.in_ok-refuse_if-2.ensures c.has_short_image.ensures) _
-    (stops (grid_checks a.p) _ tt (one 5 c.in_err-refuse_if-3.ensures c.has_no_power.ensures) refl))
+    (past_room a.p a.call a.len c.in_ok-check_sizes.ensures (one-asked 3 c.in_ok-refuse_if.ensures c.has_short_data.ensures)
+    (one-asked 4 c.in_ok-refuse_if-2.ensures c.has_short_image.ensures) _
+    (stops (grid_checks a.p) _ tt (one-asked 5 c.in_err-refuse_if-3.ensures c.has_no_power.ensures) refl))
 
 pub returns : goal.returns
 returns c =
     let a = c.args in
-    past_room a.p a.call a.len c.in_ok-check_sizes.ensures (one 3 c.in_ok-refuse_if.ensures c.has_short_data.ensures)
-    (one 4 c.in_ok-refuse_if-2.ensures c.has_short_image.ensures) _
-    (goes_on (grid_checks a.p) _ tt (one 5 c.in_ok-refuse_if-3.ensures c.has_no_power.ensures) refl (one 6 c.refuse_if-4.ensures c.is_outside.ensures))
+    past_room a.p a.call a.len c.in_ok-check_sizes.ensures (one-asked 3 c.in_ok-refuse_if.ensures c.has_short_data.ensures)
+    (one-asked 4 c.in_ok-refuse_if-2.ensures c.has_short_image.ensures) _
+    (goes_on (grid_checks a.p) _ tt (one-asked 5 c.in_ok-refuse_if-3.ensures c.has_no_power.ensures) refl (one-asked 6 c.refuse_if-4.ensures c.is_outside.ensures))
